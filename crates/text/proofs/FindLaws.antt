@@ -1,0 +1,188 @@
+-- The laws of a search for one element: an ASCII character is found in the bytes where it is found in the characters.
+-- Assumes nothing.
+use Prim.Native.Nat.{ℕ, zero, suc, _+_, _-_, _≤_, _<_}
+use mathlib.Core.Bool.{Bool, true, false, cond, _&&_}
+use mathlib.Core.Option.{Option, none, some}
+use mathlib.Core.List.{List, [], _∷_, _++_, append-cancel-left}
+use mathlib.Core.Logic.{_⊎_, inl, inr, ⊎-elim}
+use mathlib.Core.Path.{_≡_, refl, sym, ap, _∙_}
+use borrow.Author.Tests.{eqb-true, eqb-false, eq-eqb, ne-eqb, ltb-true, ltb-false, lt-ltb, le-ltb}
+use native.Mathlib.Numerals.{add-one}
+use native.Mathlib.Omega.{arith}
+use lib.Dec.{ltb, eqb, leb·suc-suc}
+use lib.ListN.{length, getD, take, drop, drop-of-length-le, length-drop}
+use lib.Seq.{drop-cons, drop-drop, drop-append-seam, take-append-seam}
+use Rattle.text.specs.Utf8.{IsScalar, utf8, tail, char, stray, chars}
+use Rattle.text.specs.Words.{if_then_else_, _>>=_, index}
+use Rattle.text.specs.Find.{found}
+use Rattle.text.specs.declared.Found.{Found}
+use Rattle.text.specs.declared.Found.the-variants.{Here, Nowhere}
+use denote.Enum.Declared.{tagOf}
+use Rattle.text.proofs.Found.{the-type}
+use Rattle.text.specs.declared.Char.{Char}
+use Rattle.text.specs.declared.Char.the-variants.{At, Bad, End}
+use Rattle.text.proofs.Tests.{decide, on, within-below}
+use Rattle.text.proofs.Utf8.{utf8-1, char-1}
+use Rattle.text.proofs.Laws.{by-chars, chars-nil, chars-utf8, chars-bad, chars-append, char-cut, Tails, Long, utf8-long}
+
+-- what stands before the first b, and what stands from it on
+abbrev pub until : ℕ → List ℕ → List ℕ
+until b [] = []
+until b (x ∷ xs) = cond (eqb x b) [] (x ∷ until b xs)
+
+abbrev pub since : ℕ → List ℕ → List ℕ
+since b [] = []
+since b (x ∷ xs) = cond (eqb x b) (x ∷ xs) (since b xs)
+
+pub until-since : (b : ℕ) (xs : List ℕ) → until b xs ++ since b xs ≡ xs
+until-since b [] = refl
+until-since b (x ∷ xs) = go (until-since b xs) (eqb x b)
+  where
+    go : until b xs ++ since b xs ≡ xs → (t : Bool) → cond t [] (x ∷ until b xs) ++ cond t (x ∷ xs) (since b xs) ≡ x ∷ xs
+    go ih true = refl
+    go ih false = ap (λ (l : List ℕ). x ∷ l) ih
+
+until-skip : (b c : ℕ) (cs : List ℕ) → (c ≡ b → ⊥) → until b (c ∷ cs) ≡ c ∷ until b cs
+until-skip b c cs n = rw (ne-eqb c b n)
+
+module _ (b : ℕ) (low : b < 0x80) where
+  -- what stands from an ASCII byte on starts with no tail
+  pub since-lead : (xs : List ℕ) → tail (getD (since b xs) 0 0) ≡ false
+  since-lead [] = refl
+  since-lead (x ∷ xs) =
+      on (λ (l : List ℕ). tail (getD l 0 0) ≡ false) (eqb x b)
+      (λ e. within-below 0x80 0xBF x (omega (arith, eqb-true x b e)))
+      (λ _. since-lead xs)
+
+  until-tails : (ys zs : List ℕ) → Tails ys → until b (ys ++ zs) ≡ ys ++ until b zs
+  until-tails [] zs h = refl
+  until-tails (y ∷ ys) zs h = rw (ne-eqb y b (omega arith)) (ap (λ (l : List ℕ). y ∷ l) (until-tails ys zs (h .1)))
+
+  until-long : (ys zs : List ℕ) → Long ys → until b (ys ++ zs) ≡ ys ++ until b zs
+  until-long [] zs h = absurd h
+  until-long (y ∷ ys) zs h = rw (ne-eqb y b (omega arith)) (ap (λ (l : List ℕ). y ∷ l) (until-tails ys zs (h .1)))
+
+  until-utf8 : (c : ℕ) (zs : List ℕ) → IsScalar c → (c ≡ b → ⊥) → until b (utf8 c ++ zs) ≡ utf8 c ++ until b zs
+  until-utf8 c zs s n =
+      ⊎-elim
+      (λ e. rw (utf8-1 c (ltb-true c 0x80 e), ne-eqb c b n))
+      (λ e. until-long (utf8 c) zs (utf8-long c s (ltb-false c 0x80 e)))
+      (decide (ltb c 0x80))
+
+  lost-high : (x : ℕ) (xs : List ℕ) → char (x ∷ xs) ≡ Bad → 0x80 ≤ x
+  lost-high x xs e =
+      ⊎-elim
+      (λ l.
+      let f = char-1 x xs (omega (arith, ltb-true x 0x80 l)) in
+      let z : _≡_ {A = ℕ} 0 1 = cc in absurd (omega arith))
+      (λ l. ltb-false x 0x80 l)
+      (decide (ltb x 0x80))
+
+  pub chars-until : (bs : List ℕ) → chars (until b bs) ≡ until b (chars bs)
+  chars-until =
+      by-chars (λ (bs : List ℕ). chars (until b bs) ≡ until b (chars bs))
+      (rw chars-nil)
+      (λ c bs s ih. rw (chars-utf8 c bs s)
+      (⊎-elim
+      (λ e. let q = eqb-true c b e in rw (e, utf8-1 c (omega arith), e) chars-nil)
+      (λ e.
+      let n = eqb-false c b e in
+      ap chars (until-utf8 c bs s n)
+      ∙ chars-utf8 c (until b bs) s
+      ∙ ap (λ (l : List ℕ). c ∷ l) ih
+      ∙ sym (until-skip b c (chars bs) n))
+      (decide (eqb c b))))
+      (λ x bs e ih.
+      let h = lost-high x bs e in
+      let f : char (x ∷ until b bs) ≡ Bad = sym (char-cut x (until b bs) (since b bs) (since-lead bs)) ∙ rw (until-since b bs) e in
+      rw (ne-eqb x b (omega arith), chars-bad x bs e, ne-eqb (stray x) b (omega arith))
+      (chars-bad x (until b bs) f ∙ ap (λ (l : List ℕ). stray x ∷ l) ih))
+
+  pub chars-since : (bs : List ℕ) → chars (since b bs) ≡ since b (chars bs)
+  chars-since bs =
+      append-cancel-left (until b (chars bs)) (chars (since b bs)) (since b (chars bs))
+      (ap (λ (l : List ℕ). l ++ chars (since b bs)) (sym (chars-until bs))
+      ∙ sym (chars-append (until b bs) (since b bs) (since-lead bs))
+      ∙ ap chars (until-since b bs)
+      ∙ sym (until-since b (chars bs)))
+
+-- one more byte that is not b
+pub until-next : (b : ℕ) (s : List ℕ) (j : ℕ) → j < length s → (getD s j 0 ≡ b → ⊥) → length (until b (drop j s)) ≡ suc (length (until b (drop (j + 1) s)))
+until-next b s j l n = rw (drop-cons s j 0 l, ne-eqb (getD s j 0) b n, add-one j)
+
+pub until-here : (b : ℕ) (s : List ℕ) (j : ℕ) → j < length s → getD s j 0 ≡ b → until b (drop j s) ≡ []
+until-here b s j l e = rw (drop-cons s j 0 l, eq-eqb (getD s j 0) b e)
+
+pub until-past : (b : ℕ) (s : List ℕ) (j : ℕ) → length s ≤ j → until b (drop j s) ≡ []
+until-past b s j l = rw (drop-of-length-le s l)
+
+-- ---- what a search for one element answers
+since-drop : (b : ℕ) (s : List ℕ) (i : ℕ) → drop (i + length (until b (drop i s))) s ≡ since b (drop i s)
+since-drop b s i =
+    sym (drop-drop (length (until b (drop i s))) i s)
+    ∙ ap (drop (length (until b (drop i s)))) (sym (until-since b (drop i s)))
+    ∙ drop-append-seam (until b (drop i s)) (since b (drop i s))
+
+-- it is found after what stands before it, unless that is all
+pub index-until : (b : ℕ) (s : List ℕ) → index (b ∷ []) s ≡ (if ltb (length (until b s)) (length s) then some (length (until b s)) else none)
+unfolding index
+index-until b [] = refl
+index-until b (c ∷ s) = by (eqb c b) (index-until b s)
+  where
+    later : (t : Bool) (n : ℕ) → ((if t then some n else none) >>= (λ m. some (suc m))) ≡ (if t then some (suc n) else none)
+    later true n = refl
+    later false n = refl
+    by : (t : Bool) → index (b ∷ []) s ≡ (if ltb (length (until b s)) (length s) then some (length (until b s)) else none)
+        → (if t && true then some 0 else index (b ∷ []) s >>= (λ n. some (suc n)))
+        ≡ (if ltb (length (cond t [] (c ∷ until b s))) (suc (length s)) then some (length (cond t [] (c ∷ until b s))) else none)
+    by true ih = rw (lt-ltb 0 (suc (length s)) (omega arith))
+    by false ih = rw ih (later (ltb (length (until b s)) (length s)) (length (until b s)) ∙ rw leb·suc-suc)
+
+pub found-is : (s : List ℕ) (i b j : ℕ) → i + length (until b (drop i s)) ≡ j → j < length s → found i (index (b ∷ []) (drop i s)) ≡ Here j
+found-is s i b j e l =
+    rw (index-until b (drop i s), lt-ltb (length (until b (drop i s))) (length (drop i s)) (rw (length-drop i s) (omega arith)), e)
+
+pub nowhere-is : (s : List ℕ) (i b : ℕ) → length s ≤ i + length (until b (drop i s)) → found i (index (b ∷ []) (drop i s)) ≡ Nowhere
+nowhere-is s i b l =
+    rw (index-until b (drop i s), le-ltb (length (until b (drop i s))) (length (drop i s)) (rw (length-drop i s) (omega arith)))
+
+here-if : (i : ℕ) (t : Bool) (k j : ℕ) → found i (if t then some k else none) ≡ Here j → (t ≡ true) × (i + k ≡ j)
+here-if i true k j e = (refl, cc)
+here-if i false k j e = (cc, cc)
+
+nowhere-if : (i : ℕ) (t : Bool) (k : ℕ) → found i (if t then some k else none) ≡ Nowhere → t ≡ false
+nowhere-if i true k e = cc
+nowhere-if i false k e = refl
+
+-- found: j is in s, at or after i, and the first b from i on stands there
+pub record IsHere (s : List ℕ) (i b j : ℕ) : Type 0 where
+  pub low : i ≤ j
+  pub bound : j < length s
+  pub until-is : take (j - i) (drop i s) ≡ until b (drop i s)
+  pub since-is : drop j s ≡ since b (drop i s)
+
+pub found-here : (s : List ℕ) (i b j : ℕ) → found i (index (b ∷ []) (drop i s)) ≡ Here j → IsHere s i b j
+found-here s i b j e =
+    let u = length (until b (drop i s)) in
+    let p = here-if i (ltb u (length (drop i s))) u j (rw (index-until b (drop i s)) at e) in
+    let q = p .1 in
+    let r : j - i ≡ u = omega arith in
+    record {
+      low = omega arith;
+      bound = omega (arith, ltb-true u (length (drop i s)) (p .0), length-drop i s);
+      until-is =
+          rw r
+          (ap (take u) (sym (until-since b (drop i s))) ∙ take-append-seam (until b (drop i s)) (since b (drop i s)));
+      since-is = ap (λ (k : ℕ). drop k s) (sym q) ∙ since-drop b s i;
+    }
+
+pub found-nowhere : (s : List ℕ) (i b : ℕ) → found i (index (b ∷ []) (drop i s)) ≡ Nowhere → since b (drop i s) ≡ []
+found-nowhere s i b e =
+    let u = length (until b (drop i s)) in
+    let f = ltb-false u (length (drop i s)) (nowhere-if i (ltb u (length (drop i s))) u (rw (index-until b (drop i s)) at e)) in
+    sym (since-drop b s i) ∙ drop-of-length-le s {i = i + u} (omega (arith, f, length-drop i s))
+
+-- the other arm of a `let .. else` on what `find` answers
+pub not-here : (x : Found) → tagOf the-type x ≡ 1 → x ≡ Nowhere
+not-here (Here j) h = absurd (omega arith)
+not-here Nowhere h = refl

@@ -1,0 +1,10 @@
+pub mod Tests
+pub mod Utf8
+pub mod Laws
+pub mod TrimLaws
+pub mod FindLaws
+pub mod PutLaws
+pub mod AsciiLaws
+pub mod CutLaws
+pub mod Buffer
+pub mod Examples

@@ -1,0 +1,399 @@
+// Text as UTF-8 bytes.
+ghost use Prim.Native.Nat.{_+_, _<_, _≤_};
+ghost use mathlib.Core.Path.{_≡_};
+ghost use mathlib.Core.Bool.{true};
+ghost use mathlib.Core.List.{[], _∷_};
+ghost use lib.ListN.{length, getD, drop};
+ghost use lib.Seq.{sets};
+ghost use Rattle.text.specs.Words.{starts-with, index};
+ghost use Rattle.text.specs.Chars.{within, is-space, is-control, is-scalar};
+ghost use Rattle.text.specs.Utf8.{tail, row, starts3, starts4, join, char-of, char, size-of, code-at, chars, encode, utf8, is-utf8};
+ghost use Rattle.text.specs.Put.{put-size, put-at};
+ghost use Rattle.text.specs.Cut.{cut};
+ghost use Rattle.text.specs.Find.{found};
+ghost use Rattle.text.specs.Trim.{trim-start, trim-end, trim, start-of, end-of, space-at, space-before};
+
+// What stands at an offset of a byte slice.
+pub enum Char {
+    // A character and its size in bytes.
+    At(u32, usize),
+    // A byte that starts no character.
+    Bad,
+    // The end of the slice.
+    End,
+}
+
+// Where something is found.
+pub enum Found {
+    Here(usize),
+    Nowhere,
+}
+
+// lo <= x <= hi
+pub fn within(lo: u32, hi: u32, x: u32) -> bool
+    ensures { λ r. ⌜ r ≡ within lo hi x ⌝ }
+{
+    (lo <= x) & (x <= hi)
+}
+
+pub fn is_space(c: u32) -> bool
+    ensures { λ r. ⌜ r ≡ is-space c ⌝ }
+{
+    within(9, 13, c)
+        | (c == 32)
+        | (c == 133)
+        | (c == 160)
+        | (c == 5760)
+        | within(8192, 8202, c)
+        | (c == 8232)
+        | (c == 8233)
+        | (c == 8239)
+        | (c == 8287)
+        | (c == 12288)
+}
+
+pub fn is_control(c: u32) -> bool
+    ensures { λ r. ⌜ r ≡ is-control c ⌝ }
+{
+    (c <= 31) | within(127, 159, c)
+}
+
+// The byte at i, or 0 past the end.
+pub fn byte(s: &[u8], i: usize) -> u32
+    ensures { λ r. ⌜ r ≡ getD (now (s .entry)) i 0 ⌝ }
+{
+    if i < s.len() { s[i] as u32 } else { 0 }
+}
+
+pub fn is_scalar(c: u32) -> bool
+    ensures { λ r. ⌜ r ≡ is-scalar c ⌝ }
+{
+    (c <= 0xD7FF) | within(0xE000, 0x10FFFF, c)
+}
+
+fn is_tail(b: u32) -> bool
+    ensures { λ r. ⌜ r ≡ tail b ⌝ }
+{
+    within(0x80, 0xBF, b)
+}
+
+fn row(a1: u32, a2: u32, b1: u32, b2: u32, a: u32, b: u32) -> bool
+    ensures { λ r. ⌜ r ≡ row a1 a2 b1 b2 a b ⌝ }
+{
+    within(a1, a2, a) & within(b1, b2, b)
+}
+
+fn is_start3(a: u32, b: u32) -> bool
+    ensures { λ r. ⌜ r ≡ starts3 a b ⌝ }
+{
+    row(0xE0, 0xE0, 0xA0, 0xBF, a, b)
+        | row(0xE1, 0xEC, 0x80, 0xBF, a, b)
+        | row(0xED, 0xED, 0x80, 0x9F, a, b)
+        | row(0xEE, 0xEF, 0x80, 0xBF, a, b)
+}
+
+fn is_start4(a: u32, b: u32) -> bool
+    ensures { λ r. ⌜ r ≡ starts4 a b ⌝ }
+{
+    row(0xF0, 0xF0, 0x90, 0xBF, a, b)
+        | row(0xF1, 0xF3, 0x80, 0xBF, a, b)
+        | row(0xF4, 0xF4, 0x80, 0x8F, a, b)
+}
+
+// Six bits more, those of the tail b.
+fn join(v: u32, b: u32) -> u32
+    requires { ⌜ (v < 0x10000) × (tail b ≡ true) ⌝ }
+    ensures { λ r. ⌜ r ≡ join v b ⌝ }
+{
+    v * 64 + (b - 0x80)
+}
+
+// The character that the bytes a b c d start with.
+fn char_of(a: u32, b: u32, c: u32, d: u32) -> Char
+    ensures { λ r. ⌜ r ≡ char-of a b c d ⌝ }
+{
+    if a <= 0x7F {
+        return Char::At(a, 1);
+    }
+    if !is_tail(b) {
+        return Char::Bad;
+    }
+    if within(0xC2, 0xDF, a) {
+        return Char::At(join(a - 0xC0, b), 2);
+    }
+    if !is_tail(c) {
+        return Char::Bad;
+    }
+    if is_start3(a, b) {
+        return Char::At(join(join(a - 0xE0, b), c), 3);
+    }
+    if !is_tail(d) {
+        return Char::Bad;
+    }
+    if is_start4(a, b) {
+        return Char::At(join(join(join(a - 0xF0, b), c), d), 4);
+    }
+    Char::Bad
+}
+
+// The character at i.
+pub fn read(s: &[u8], i: usize) -> Char
+    ensures { λ r. ⌜ r ≡ char (drop i (now (s .entry))) ⌝ }
+{
+    if s.len() <= i {
+        return Char::End;
+    }
+    let a = s[i];
+    if a < 0x80 {
+        return Char::At(a as u32, 1);
+    }
+    char_of(byte(s, i), byte(s, i + 1), byte(s, i + 2), byte(s, i + 3))
+}
+
+// How many bytes the character at i has: 1 for a byte that starts none, 0 at the end.
+pub fn size_at(s: &[u8], i: usize) -> usize
+    ensures { λ r. ⌜ r ≡ size-of (char (drop i (now (s .entry)))) ⌝ }
+{
+    match read(s, i) {
+        Char::At(_, n) => n,
+        Char::Bad => 1,
+        Char::End => 0,
+    }
+}
+
+// The code at i: a character, or 0x110000 and a byte that starts none; 0 at the end.
+pub fn code_at(s: &[u8], i: usize) -> u32
+    ensures { λ r. ⌜ r ≡ code-at (now (s .entry)) i ⌝ }
+{
+    match read(s, i) {
+        Char::At(c, _) => c,
+        Char::Bad => 0x110000 + byte(s, i),
+        Char::End => 0,
+    }
+}
+
+// Whether all of s is UTF-8.
+pub fn is_utf8(s: &[u8]) -> bool
+    ensures { λ r. ⌜ r ≡ is-utf8 (now (s .entry)) ⌝ }
+{
+    let mut i = 0;
+    while i < s.len() {
+        let Char::At(_, n) = read(s, i) else {
+            return false;
+        };
+        i += n;
+    }
+    true
+}
+
+// Where s starts without the spaces before it.
+pub fn start_of(s: &[u8]) -> usize
+    ensures { λ r. ⌜ r ≡ start-of (now (s .entry)) ⌝ }
+{
+    let mut i = 0;
+    while i < s.len() {
+        let Char::At(c, n) = read(s, i) else {
+            return i;
+        };
+        if !is_space(c) {
+            return i;
+        }
+        i += n;
+    }
+    i
+}
+
+// Whether a space of k bytes stands at i.
+fn space_at(s: &[u8], i: usize, k: usize) -> bool
+    ensures { λ r. ⌜ r ≡ space-at (drop i (now (s .entry))) k ⌝ }
+{
+    let Char::At(c, n) = read(s, i) else {
+        return false;
+    };
+    is_space(c) & (n == k)
+}
+
+// How many bytes the space has that ends before e; 0 where none does.
+fn space_before(s: &[u8], e: usize) -> usize
+    ensures { λ r. ⌜ r ≡ space-before (now (s .entry)) e ⌝ }
+{
+    if e < 1 {
+        return 0;
+    }
+    if space_at(s, e - 1, 1) {
+        return 1;
+    }
+    if e < 2 {
+        return 0;
+    }
+    if space_at(s, e - 2, 2) {
+        return 2;
+    }
+    if e < 3 {
+        return 0;
+    }
+    if space_at(s, e - 3, 3) {
+        return 3;
+    }
+    0
+}
+
+// Where s ends without the spaces after it.
+pub fn end_of(s: &[u8]) -> usize
+    ensures { λ r. ⌜ r ≡ end-of (now (s .entry)) ⌝ }
+{
+    let mut e = s.len();
+    loop {
+        let k = space_before(s, e);
+        if k == 0 {
+            return e;
+        }
+        e -= k;
+    }
+}
+
+pub fn trim_start(s: &[u8]) -> &[u8]
+    ensures { λ r. ⌜ now r ≡ encode (trim-start (chars (now (s .entry)))) ⌝ }
+{
+    let a = start_of(s);
+    &s[a..]
+}
+
+pub fn trim_end(s: &[u8]) -> &[u8]
+    ensures { λ r. ⌜ now r ≡ encode (trim-end (chars (now (s .entry)))) ⌝ }
+{
+    let e = end_of(s);
+    &s[..e]
+}
+
+pub fn trim(s: &[u8]) -> &[u8]
+    ensures { λ r. ⌜ now r ≡ encode (trim (chars (now (s .entry)))) ⌝ }
+{
+    trim_end(trim_start(s))
+}
+
+// The first b of s at or after i.
+pub fn find(s: &[u8], i: usize, b: u8) -> Found
+    ensures { λ r. ⌜ r ≡ found i (index (b ∷ []) (drop i (now (s .entry)))) ⌝ }
+{
+    let mut j = i;
+    while j < s.len() {
+        if s[j] == b {
+            return Found::Here(j);
+        }
+        j += 1;
+    }
+    Found::Nowhere
+}
+
+// How many bytes the character c has.
+pub fn width(c: u32) -> usize
+    ensures { λ r. ⌜ r ≡ length (utf8 c) ⌝ }
+{
+    if c < 0x80 {
+        return 1;
+    }
+    if c < 0x800 {
+        return 2;
+    }
+    if c < 0x10000 {
+        return 3;
+    }
+    if c < 0x110000 {
+        return 4;
+    }
+    1
+}
+
+fn put2(out: &mut [u8], at: usize, c: u32)
+    requires { ⌜ (0x80 ≤ c) × ((c < 0x800) × (at + 2 ≤ length (now out))) ⌝ }
+    ensures { λ r. ⌜ now (out .exit) ≡ sets (now (out .entry)) at (utf8 c) ⌝ }
+{
+    out[at] = (0xC0 + c / 64) as u8;
+    out[at + 1] = (0x80 + c % 64) as u8;
+}
+
+fn put3(out: &mut [u8], at: usize, c: u32)
+    requires { ⌜ (0x800 ≤ c) × ((c < 0x10000) × (at + 3 ≤ length (now out))) ⌝ }
+    ensures { λ r. ⌜ now (out .exit) ≡ sets (now (out .entry)) at (utf8 c) ⌝ }
+{
+    out[at] = (0xE0 + c / 4096) as u8;
+    out[at + 1] = (0x80 + c / 64 % 64) as u8;
+    out[at + 2] = (0x80 + c % 64) as u8;
+}
+
+fn put4(out: &mut [u8], at: usize, c: u32)
+    requires { ⌜ (0x10000 ≤ c) × ((c < 0x110000) × (at + 4 ≤ length (now out))) ⌝ }
+    ensures { λ r. ⌜ now (out .exit) ≡ sets (now (out .entry)) at (utf8 c) ⌝ }
+{
+    out[at] = (0xF0 + c / 262144) as u8;
+    out[at + 1] = (0x80 + c / 4096 % 64) as u8;
+    out[at + 2] = (0x80 + c / 64 % 64) as u8;
+    out[at + 3] = (0x80 + c % 64) as u8;
+}
+
+// Writes the character c at `at`, and answers how many bytes that took: none where c is no character or has no room.
+pub fn put(out: &mut [u8], at: usize, c: u32) -> usize
+    ensures { λ r. ⌜ (r ≡ put-size (length (now (out .entry))) at c) × (now (out .exit) ≡ put-at (now (out .entry)) at c) ⌝ }
+{
+    let n = out.len();
+    let k = width(c);
+    if 0x10FFFF < c {
+        return 0;
+    }
+    if n < k {
+        return 0;
+    }
+    if n - k < at {
+        return 0;
+    }
+    if c < 0x80 {
+        out[at] = c as u8;
+        return 1;
+    }
+    if c < 0x800 {
+        put2(out, at, c);
+        return 2;
+    }
+    if c < 0x10000 {
+        put3(out, at, c);
+        return 3;
+    }
+    put4(out, at, c);
+    4
+}
+
+// How many bytes the first characters of s take up that fit into n bytes.
+pub fn cut_len(s: &[u8], n: usize) -> usize
+    ensures { λ r. ⌜ r ≡ length (encode (cut n (chars (now (s .entry))))) ⌝ }
+{
+    let mut i = 0;
+    while i < s.len() {
+        let k = size_at(s, i);
+        if n - i < k {
+            return i;
+        }
+        i += k;
+    }
+    i
+}
+
+// Whether p stands at i.
+pub fn starts_with(s: &[u8], i: usize, p: &[u8]) -> bool
+    ensures { λ r. ⌜ r ≡ starts-with (now (p .entry)) (drop i (now (s .entry))) ⌝ }
+{
+    if s.len() < i {
+        return p.len() == 0;
+    }
+    if s.len() - i < p.len() {
+        return false;
+    }
+    let mut j = 0;
+    while j < p.len() {
+        if s[i + j] != p[j] {
+            return false;
+        }
+        j += 1;
+    }
+    true
+}
