@@ -132,6 +132,7 @@ index-until b (c ∷ s) = by (eqb c b) (index-until b s)
     later : (t : Bool) (n : ℕ) → ((if t then some n else none) >>= (λ m. some (suc m))) ≡ (if t then some (suc n) else none)
     later true n = refl
     later false n = refl
+
     by : (t : Bool) → index (b ∷ []) s ≡ (if ltb (length (until b s)) (length s) then some (length (until b s)) else none)
         → (if t && true then some 0 else index (b ∷ []) s >>= (λ n. some (suc n)))
         ≡ (if ltb (length (cond t [] (c ∷ until b s))) (suc (length s)) then some (length (cond t [] (c ∷ until b s))) else none)

@@ -23,12 +23,15 @@ is-control c = leb c 31 || within 127 159 c
 unfoldable pub is-scalar : ℕ → Bool
 is-scalar c = leb c 0xD7FF || within 0xE000 0x10FFFF c
 
--- `is_ascii_digit`, `is_ascii_alphanumeric` and `to_ascii_lowercase`
+-- `is_ascii_digit`, `is_ascii_alphabetic`, `is_ascii_alphanumeric` and `to_ascii_lowercase`
 abbrev pub is-digit : ℕ → Bool
 is-digit c = within 48 57 c
 
+abbrev pub is-letter : ℕ → Bool
+is-letter c = within 65 90 c || within 97 122 c
+
 abbrev pub is-alphanumeric : ℕ → Bool
-is-alphanumeric c = is-digit c || within 65 90 c || within 97 122 c
+is-alphanumeric c = is-digit c || is-letter c
 
 abbrev pub to-lower : ℕ → ℕ
 to-lower c = if within 65 90 c then c + 32 else c

@@ -5,3 +5,5 @@ pub mod Trim
 pub mod Find
 pub mod Put
 pub mod Cut
+pub mod Decimal
+pub mod Outcome

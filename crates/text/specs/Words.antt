@@ -15,7 +15,7 @@ abbrev pub if_then_else_ : {A : Type 0} → Bool → A → A → A
 if b then x else y = cond b x y
 
 -- `?` and `and_then`, for `do`; and a test that must hold
-infixl 55 _>>=_
+infixl 20 _>>=_
 abbrev pub _>>=_ : {A B : Type 0} → Option A → (A → Option B) → Option B
 none >>= f = none
 some a >>= f = f a
@@ -23,6 +23,11 @@ some a >>= f = f a
 abbrev pub ensure : Bool → Option (Unit {0})
 ensure true = some tt
 ensure false = none
+
+-- `map_or`, the default first to be read
+abbrev pub case : {A B : Type 0} → Option A → B → (A → B) → B
+case none b f = b
+case (some a) b f = f a
 
 -- a literal's characters, and `"..".repeat(n)`
 abbrev pub str : String → List ℕ

@@ -1,7 +1,6 @@
 -- `text::is_scalar` meets its contract.
 -- Assumes nothing.
 use Rattle.text.specs.Chars.{is-scalar}
-
 use borrow.Author.Needs.{needs}
 use Rattle.text.proofs.is_scalar.Statement.{statement}
 use Rattle.text.proofs.is_scalar.Tie as tie
