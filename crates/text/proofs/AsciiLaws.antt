@@ -5,15 +5,16 @@ use mathlib.Core.Bool.{Bool, true, false, _&&_}
 use mathlib.Core.List.{List, [], _∷_, _++_, append-nil, append-assoc}
 use mathlib.Core.Logic.{_⊎_, inl, inr, ⊎-elim}
 use mathlib.Core.Path.{_≡_, refl, sym, ap, _∙_}
-use borrow.Author.Tests.{eq-eqb, ne-eqb, ltb-true, ltb-false}
+use borrow.Author.Tests.{eq-eqb, ne-eqb, ltb-true, ltb-false, lt-ltb, le-ltb, le-leb}
 use native.Mathlib.Numerals.{add-one}
 use native.Mathlib.Omega.{arith}
 use lib.Dec.{ltb, eqb, eqb·suc-zero}
-use lib.ListN.{length, getD, take, drop, length-append}
-use lib.Seq.{drop-cons, getD-take, take-at, length-take-le, sets}
+use lib.ListN.{length, getD, take, drop, length-append, length-drop, drop-of-length-le}
+use lib.Seq.{drop-cons, drop-drop, take-suc, getD-take, take-at, length-take-le, sets}
 use Rattle.text.specs.Utf8.{IsScalar, Scalars, utf8, encode, chars, char, size-of}
-use Rattle.text.specs.Words.{starts-with}
-use Rattle.text.proofs.Tests.{decide, and-false}
+use Rattle.text.specs.Words.{starts-with, all, take-while}
+use Rattle.text.specs.Chars.{is-ascii, is-scalar}
+use Rattle.text.proofs.Tests.{decide, on, and-true, and-false, and-assoc, and-true-right}
 use Rattle.text.proofs.Utf8.{utf8-1, char-1}
 use Rattle.text.proofs.Laws.{Next, next-is, Tails, Long, utf8-long, chars-nil, chars-at, encode-append, utf8-size}
 use Rattle.text.proofs.PutLaws.{put-parts}
@@ -86,3 +87,62 @@ starts-short (p ∷ ps) (x ∷ xs) h = and-false (eqb x p) (starts-with ps xs) (
 pub starts-nil : (ps : List ℕ) → starts-with ps [] ≡ eqb (length ps) 0
 starts-nil [] = refl
 starts-nil (p ∷ ps) = sym (eqb·suc-zero (length ps))
+
+-- ---- a run of ASCII bytes
+pub all-append : (p : ℕ → Bool) (xs ys : List ℕ) → all p (xs ++ ys) ≡ all p xs && all p ys
+all-append p [] ys = refl
+all-append p (x ∷ xs) ys = ap (λ (t : Bool). p x && t) (all-append p xs ys) ∙ sym (and-assoc (p x) (all p xs) (all p ys))
+
+-- one element more
+pub all-next : (p : ℕ → Bool) (xs : List ℕ) (k : ℕ) → k < length xs → all p (take (k + 1) xs) ≡ all p (take k xs) && p (getD xs k 0)
+all-next p xs k h =
+    rw (add-one k, take-suc xs k 0 h, all-append p (take k xs) (getD xs k 0 ∷ []), and-true-right (p (getD xs k 0)))
+
+pub run-next : (s : List ℕ) (j : ℕ) → j < length s → getD s j 0 < 0x80
+    → length (take-while is-ascii (drop j s)) ≡ suc (length (take-while is-ascii (drop (j + 1) s)))
+unfolding take-while is-ascii
+run-next s j l h = rw (drop-cons s j 0 l, lt-ltb (getD s j 0) 0x80 h, add-one j)
+
+pub run-stop : (s : List ℕ) (j : ℕ) → j < length s → 0x80 ≤ getD s j 0 → take-while is-ascii (drop j s) ≡ []
+unfolding take-while is-ascii
+run-stop s j l h = rw (drop-cons s j 0 l, le-ltb (getD s j 0) 0x80 h)
+
+pub run-past : (s : List ℕ) (j : ℕ) → length s ≤ j → take-while is-ascii (drop j s) ≡ []
+unfolding take-while
+run-past s j l = rw (drop-of-length-le s l)
+
+pub run-le : (s : List ℕ) → length (take-while is-ascii s) ≤ length s
+unfolding take-while
+run-le [] = omega arith
+run-le (x ∷ s) = on (λ (l : List ℕ). length l ≤ suc (length s)) (is-ascii x) (λ _. let h = run-le s in omega arith) (λ _. omega arith)
+
+pub run-block : (n : ℕ) (s : List ℕ) → n ≤ length s → all is-ascii (take n s) ≡ true
+    → length (take-while is-ascii s) ≡ n + length (take-while is-ascii (drop n s))
+unfolding take-while
+run-block zero s l h = omega arith
+run-block (suc n) [] l h = absurd (omega arith)
+run-block (suc n) (x ∷ s) l h =
+    let p = and-true (is-ascii x) (all is-ascii (take n s)) h in
+    let ih = run-block n s (omega arith) (p .1) in
+    rw (p .0) (omega arith)
+
+ascii-scalar : (x : ℕ) → x < 0x80 → is-scalar x ≡ true
+unfolding is-scalar
+ascii-scalar x h = rw (le-leb x 0xD7FF (omega arith))
+
+-- ASCII is UTF-8, so what follows a run of it decides
+pub run-scalar : (s : List ℕ) → all is-scalar (chars s) ≡ all is-scalar (chars (drop (length (take-while is-ascii s)) s))
+unfolding take-while is-ascii
+run-scalar [] = refl
+run-scalar (x ∷ s) =
+    on (λ (l : List ℕ). all is-scalar (chars (x ∷ s)) ≡ all is-scalar (chars (drop (length l) (x ∷ s)))) (ltb x 0x80)
+    (λ h. rw (chars-ascii x s (ltb-true x 0x80 h), ascii-scalar x (ltb-true x 0x80 h)) (run-scalar s))
+    (λ _. refl)
+
+pub run-to : (s : List ℕ) (i j : ℕ) → i ≤ length s → j ≡ i + length (take-while is-ascii (drop i s))
+    → (all is-scalar (chars (drop i s)) ≡ all is-scalar (chars (drop j s))) × (i ≤ j) × (j ≤ length s)
+run-to s i j l e =
+    let n = length (take-while is-ascii (drop i s)) in
+    let h = run-le (drop i s) in
+    let d = length-drop i s in
+    (run-scalar (drop i s) ∙ rw (drop-drop n i s, e), omega arith, omega arith)

@@ -17,7 +17,7 @@ use lib.Seq.{drop-append-seam, drop-nil, drop-drop, take-add, take-append-seam, 
 use Rattle.text.specs.Chars.{within}
 use Rattle.text.specs.Words.{all}
 use Rattle.text.specs.Chars.{is-scalar}
-use Rattle.text.specs.Utf8.{IsScalar, Scalars, utf8, encode, tail, char-of, char, size-of, stray, next, scan, chars, code-at, is-utf8, decode}
+use Rattle.text.specs.Utf8.{size, IsScalar, Scalars, utf8, encode, tail, char-of, char, size-of, stray, next, scan, chars, code-at, is-utf8, decode}
 use Rattle.text.specs.declared.Char.{Char}
 use Rattle.text.specs.declared.Char.the-variants.{At, Bad, End}
 use Rattle.text.proofs.Tests.{decide, on, and-true, or-elim, or-right, within-true, within-is, within-below, within-above}
@@ -88,7 +88,7 @@ pub chars-utf8 : (c : ℕ) (bs : List ℕ) → IsScalar c → chars (utf8 c ++ b
 chars-utf8 c bs s =
     chars-at (utf8 c ++ bs) c (length (utf8 c)) (char-utf8 c bs s) ∙ rw (drop-append-seam (utf8 c) bs)
 
-not-nil : (b : ℕ) (bs : List ℕ) → b ∷ bs ≡ [] → ⊥
+pub not-nil : (b : ℕ) (bs : List ℕ) → b ∷ bs ≡ [] → ⊥
 not-nil b bs e = let z : _≡_ {A = ℕ} 0 1 = cc in omega arith
 
 -- induction: what holds of no bytes, and with a character or a stray byte put in front, holds of all bytes
@@ -417,3 +417,26 @@ turn-is s i l =
       rest = rw (h .size) (h .rest);
       front = rw (h .size) (h .front);
     })
+
+-- ---- how many
+pub size-encode : (cs : List ℕ) → length (encode cs) ≡ size cs
+unfolding size
+size-encode [] = refl
+size-encode (c ∷ cs) = length-append (utf8 c) (encode cs) ∙ rw (size-encode cs)
+
+pub size-chars : (bs : List ℕ) → size (chars bs) ≡ length bs
+size-chars bs = sym (size-encode (chars bs)) ∙ ap length (encode-chars bs)
+
+pub size-append : (xs ys : List ℕ) → size (xs ++ ys) ≡ size xs + size ys
+unfolding size
+size-append [] ys = omega arith
+size-append (x ∷ xs) ys = let h = size-append xs ys in omega arith
+
+-- a character has a byte at least
+pub size-length : (cs : List ℕ) → length cs ≤ size cs
+unfolding size
+size-length [] = omega arith
+size-length (c ∷ cs) = let h = size-length cs in let k = utf8-size c in omega arith
+
+pub chars-length : (bs : List ℕ) → length (chars bs) ≤ length bs
+chars-length bs = omega (arith, size-chars bs, size-length (chars bs))

@@ -2,7 +2,7 @@
 -- Assumes nothing.
 use Prim.Native.Nat.{ℕ, _+_}
 use mathlib.Core.Bool.{Bool, _&&_, _||_}
-use lib.Dec.{leb, eqb}
+use lib.Dec.{leb, ltb, eqb}
 use Rattle.text.specs.Words.{if_then_else_}
 
 -- low ≤ c ≤ high
@@ -22,6 +22,9 @@ is-control c = leb c 31 || within 127 159 c
 
 unfoldable pub is-scalar : ℕ → Bool
 is-scalar c = leb c 0xD7FF || within 0xE000 0x10FFFF c
+
+unfoldable pub is-ascii : ℕ → Bool
+is-ascii c = ltb c 0x80
 
 -- `is_ascii_digit`, `is_ascii_alphabetic`, `is_ascii_alphanumeric` and `to_ascii_lowercase`
 abbrev pub is-digit : ℕ → Bool

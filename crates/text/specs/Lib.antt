@@ -7,3 +7,4 @@ pub mod Put
 pub mod Cut
 pub mod Decimal
 pub mod Outcome
+pub mod Ascii

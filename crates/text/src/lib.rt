@@ -3,13 +3,14 @@ ghost use Prim.Native.Nat.{_+_, _<_, _≤_};
 ghost use mathlib.Core.Path.{_≡_};
 ghost use mathlib.Core.Bool.{true};
 ghost use mathlib.Core.List.{[], _∷_};
-ghost use lib.ListN.{length, getD, drop};
+ghost use lib.ListN.{length, getD, take, drop};
 ghost use lib.Seq.{sets};
-ghost use Rattle.text.specs.Words.{starts-with, index};
-ghost use Rattle.text.specs.Chars.{within, is-space, is-control, is-scalar};
+ghost use Rattle.text.specs.Words.{all, starts-with, index, take-while};
+ghost use Rattle.text.specs.Chars.{within, is-ascii, is-space, is-control, is-scalar};
 ghost use Rattle.text.specs.Utf8.{tail, row, starts3, starts4, join, char-of, char, size-of, code-at, chars, encode, utf8, is-utf8};
 ghost use Rattle.text.specs.Put.{put-size, put-at};
-ghost use Rattle.text.specs.Cut.{cut};
+ghost use Rattle.text.specs.Cut.{cut, splits, cut-end};
+ghost use Rattle.text.specs.Ascii.{AsciiTo};
 ghost use Rattle.text.specs.Find.{found};
 ghost use Rattle.text.specs.Trim.{trim-start, trim-end, trim, start-of, end-of, space-at, space-before};
 
@@ -172,16 +173,62 @@ pub fn code_at(s: &[u8], i: usize) -> u32
     }
 }
 
+// Whether the 32 bytes from i on are ASCII. One test a byte and no way out of the loop, so that the compiler can take many bytes at once.
+fn is_ascii_block(s: &[u8], i: usize) -> bool
+    requires { ⌜ i + 32 ≤ length (now s) ⌝ }
+    ensures { λ r. ⌜ r ≡ all is-ascii (take 32 (drop i (now (s .entry)))) ⌝ }
+{
+    let mut ascii = true;
+    let mut k = 0;
+    while k < 32 {
+        ascii = ascii & (s[i + k] < 0x80);
+        k += 1;
+    }
+    ascii
+}
+
+// Where the blocks of 32 ASCII bytes from i on end.
+fn ascii_blocks(s: &[u8], i: usize) -> usize
+    requires { ⌜ i ≤ length (now s) ⌝ }
+    ensures { λ r. ⌜ AsciiTo (now (s .entry)) i r ⌝ }
+{
+    let mut j = i;
+    while 32 <= s.len() - j {
+        if !is_ascii_block(s, j) {
+            return j;
+        }
+        j += 32;
+    }
+    j
+}
+
+// Where the ASCII bytes from i on end.
+pub fn ascii_end(s: &[u8], i: usize) -> usize
+    ensures { λ r. ⌜ r ≡ i + length (take-while is-ascii (drop i (now (s .entry)))) ⌝ }
+{
+    if s.len() <= i {
+        return i;
+    }
+    let mut j = ascii_blocks(s, i);
+    while j < s.len() {
+        if 0x80 <= s[j] {
+            return j;
+        }
+        j += 1;
+    }
+    j
+}
+
 // Whether all of s is UTF-8.
 pub fn is_utf8(s: &[u8]) -> bool
     ensures { λ r. ⌜ r ≡ is-utf8 (now (s .entry)) ⌝ }
 {
-    let mut i = 0;
+    let mut i = ascii_end(s, 0);
     while i < s.len() {
         let Char::At(_, n) = read(s, i) else {
             return false;
         };
-        i += n;
+        i = ascii_end(s, i + n);
     }
     true
 }
@@ -363,19 +410,73 @@ pub fn put(out: &mut [u8], at: usize, c: u32) -> usize
     4
 }
 
-// How many bytes the first characters of s take up that fit into n bytes.
-pub fn cut_len(s: &[u8], n: usize) -> usize
-    ensures { λ r. ⌜ r ≡ length (encode (cut n (chars (now (s .entry))))) ⌝ }
+// Whether the character that starts k bytes before n goes on past n.
+fn is_split(s: &[u8], n: usize, k: usize) -> bool
+    ensures { λ r. ⌜ r ≡ splits (now (s .entry)) n k ⌝ }
+{
+    if n < k {
+        return false;
+    }
+    k < size_at(s, n - k)
+}
+
+// Where the first n bytes of s end without a split character.
+fn cut_end(s: &[u8], n: usize) -> usize
+    ensures { λ r. ⌜ r ≡ cut-end (now (s .entry)) n ⌝ }
+{
+    if is_split(s, n, 1) {
+        return n - 1;
+    }
+    if is_split(s, n, 2) {
+        return n - 2;
+    }
+    if is_split(s, n, 3) {
+        return n - 3;
+    }
+    n
+}
+
+// The first n bytes of s, fewer where a character would be split.
+pub fn cut(s: &[u8], n: usize) -> &[u8]
+    ensures { λ r. ⌜ now r ≡ encode (cut n (chars (now (s .entry)))) ⌝ }
+{
+    if s.len() <= n {
+        return s;
+    }
+    let e = cut_end(s, n);
+    &s[..e]
+}
+
+// How many characters s has.
+pub fn count(s: &[u8]) -> usize
+    ensures { λ r. ⌜ r ≡ length (chars (now (s .entry))) ⌝ }
 {
     let mut i = 0;
+    let mut k = 0;
     while i < s.len() {
-        let k = size_at(s, i);
-        if n - i < k {
-            return i;
-        }
-        i += k;
+        i += size_at(s, i);
+        k += 1;
     }
-    i
+    k
+}
+
+// The first n characters of s.
+pub fn first(s: &[u8], n: usize) -> &[u8]
+    ensures { λ r. ⌜ now r ≡ encode (take n (chars (now (s .entry)))) ⌝ }
+{
+    if s.len() <= n {
+        return s;
+    }
+    let mut i = 0;
+    let mut k = 0;
+    while k < n {
+        if s.len() <= i {
+            return s;
+        }
+        i += size_at(s, i);
+        k += 1;
+    }
+    &s[..i]
 }
 
 // Whether p stands at i.
