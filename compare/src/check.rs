@@ -1,0 +1,136 @@
+//! One input to both sides. Each function answers whether they agree; both buffers are filled with a pattern first, so that "unchanged" is seen.
+use crate::oracle::{self, Block, Span};
+use crate::port::{self, BlockAt, SpanAt, Tested, Written, END, HEADING, ITEM, PARAGRAPH};
+use crate::random::Random;
+
+const FILL: u8 = 0xA5;
+const MAX_HTML: usize = 1_048_576;
+
+fn refused(number: u32) -> Written {
+    Written { number, length: 0 }
+}
+
+fn is_fill(bytes: &[u8]) -> bool {
+    bytes.iter().all(|b| *b == FILL)
+}
+
+/// The result after a call: what was written, then the pattern.
+fn holds(result: &[u8], written: &[u8]) -> bool {
+    result.starts_with(written) && is_fill(&result[written.len()..])
+}
+
+/// How many bytes of a page are read.
+fn bytes_read(page: &str) -> usize {
+    let mut at = page.len().min(MAX_HTML);
+    while !page.is_char_boundary(at) {
+        at -= 1;
+    }
+    at
+}
+
+/// A page, in buffers that are long enough or one byte short; `full`: a list is opened while 64 are open.
+pub fn page(page: &[u8], full: bool, r: &mut Random) -> bool {
+    let text = std::str::from_utf8(page);
+    let need = text.map_or(0, |text| 2 * bytes_read(text) + 16_384);
+    let (short_work, short_result) = (r.once_in(16) && need > 0, r.once_in(16));
+    let mut work = vec![FILL; need - short_work as usize + if r.once_in(2) && !short_work { 7 } else { 0 }];
+    let mut result = vec![FILL; if short_result { 31_999 } else { 32_000 + r.below(2) }];
+    let answer = port::html_to_markdown(page, &mut work, &mut result);
+    let Ok(text) = text else {
+        return answer == refused(1) && is_fill(&work) && is_fill(&result);
+    };
+    if short_work || short_result {
+        return answer == refused(if short_work { 2 } else { 3 }) && is_fill(&work) && is_fill(&result);
+    }
+    if full {
+        return answer == refused(4) && is_fill(&result);
+    }
+    let expected = oracle::html_to_markdown(text);
+    answer == Written { number: 0, length: expected.len() } && holds(&result, expected.as_bytes())
+}
+
+/// A Markdown text, in buffers that are exact, longer, or one byte short.
+pub fn markdown(markdown: &[u8], r: &mut Random) -> bool {
+    let text = std::str::from_utf8(markdown);
+    let records = text.map_or(Vec::new(), |text| oracle::records(&oracle::blocks(text)));
+    let short_work = r.once_in(16) && !markdown.is_empty();
+    let short_result = r.once_in(4) && !records.is_empty();
+    let mut work = vec![FILL; 6 * markdown.len() - short_work as usize];
+    let mut result = vec![FILL; if short_result { records.len() - 1 } else { records.len() + r.below(2) * 9 }];
+    let answer = port::blocks(markdown, &mut work, &mut result);
+    let early = if markdown.len() > 65_536 { 5 } else if text.is_err() { 1 } else if short_work { 2 } else { 0 };
+    if early != 0 {
+        return answer == refused(early) && is_fill(&work) && is_fill(&result);
+    }
+    if short_result {
+        return answer == refused(6) && result.iter().all(|b| *b == 0);
+    }
+    answer == Written { number: 0, length: records.len() } && holds(&result, &records)
+}
+
+fn span_is(records: &[u8], at: usize, n: usize, span: &Span) -> bool {
+    let expected = SpanAt { number: 0, kind: 1, bold: span.bold as u32, italic: span.italic as u32, code: span.code as u32 };
+    port::span_at(records, at, n) == expected && port::text_at(records, at, n) == span.text.as_bytes()
+}
+
+fn ends_at(records: &[u8], at: usize, n: usize) -> bool {
+    port::span_at(records, at, n) == SpanAt { number: 0, kind: END, bold: 0, italic: 0, code: 0 } && port::text_at(records, at, n).is_empty()
+}
+
+/// The block at an offset; answers the next offset.
+fn block_is(records: &[u8], at: usize, block: &Block) -> Option<usize> {
+    let (kind, level, depth, marker, spans) = match block {
+        Block::Heading(level, spans) => (HEADING, *level as usize, 0, "", spans),
+        Block::Paragraph(spans) => (PARAGRAPH, 0, 0, "", spans),
+        Block::Item { depth, marker, spans } => (ITEM, 0, *depth, marker.as_str(), spans),
+    };
+    let found = port::block_at(records, at);
+    let same = found == BlockAt { number: 0, kind, level, depth, count: spans.len(), next: found.next } && port::marker_at(records, at) == marker.as_bytes();
+    let spans_same = spans.iter().enumerate().all(|(n, span)| span_is(records, at, n, span));
+    (same && spans_same && ends_at(records, at, spans.len()) && found.next > at).then_some(found.next)
+}
+
+/// The records of a Markdown text, walked from the start: each block in order, then the end.
+pub fn walk(markdown: &str) -> bool {
+    let blocks = oracle::blocks(markdown);
+    let records = oracle::records(&blocks);
+    let mut at = 0;
+    for block in &blocks {
+        let Some(next) = block_is(&records, at, block) else { return false };
+        at = next;
+    }
+    let end = BlockAt { number: 0, kind: END, level: 0, depth: 0, count: 0, next: 0 };
+    at == records.len() && port::block_at(&records, at) == end && ends_at(&records, at, 0) && port::block_at(&records, at + 1).number == 7
+}
+
+/// Damaged records at every offset: a block there exactly if a strict reader finds one.
+pub fn damaged_records(records: &[u8]) -> bool {
+    (0..records.len()).all(|at| {
+        let found = port::block_at(records, at);
+        match crate::records::block(records, at) {
+            Some((block, next)) => block_is(records, at, &block) == Some(next),
+            None => found.number == 7 && port::marker_at(records, at).is_empty() && port::text_at(records, at, 0).is_empty() && port::span_at(records, at, 0).number == 7,
+        }
+    })
+}
+
+/// The sheet test, and for a sheet the whole way from page to records.
+pub fn sheet(page: &[u8]) -> bool {
+    let answer = port::sheet(page);
+    let Ok(text) = std::str::from_utf8(page) else {
+        return answer == Tested { number: 1, yes: 0, bytes: 0, characters: 0 };
+    };
+    let Some(sheet) = crate::sheet::read(text) else {
+        return answer == Tested { number: 0, yes: 0, bytes: 0, characters: 0 };
+    };
+    let mut work = vec![0; (2 * page.len() + 16_384).max(6 * 16_000)];
+    let mut result = vec![0; 200_000];
+    let converted = port::html_to_markdown(page, &mut work, &mut result);
+    let markdown = result[..converted.length].to_vec();
+    let read = port::blocks(&markdown, &mut work, &mut result);
+    answer == Tested { number: 0, yes: 1, bytes: sheet.written.len(), characters: sheet.written.chars().count() }
+        && converted.number == 0
+        && markdown == sheet.written.as_bytes()
+        && read.number == 0
+        && result[..read.length] == oracle::records(&sheet.blocks)
+}
