@@ -1,3 +1,4 @@
 pub mod Turns
 pub mod Tags
 pub mod TextOut
+pub mod RunOut
