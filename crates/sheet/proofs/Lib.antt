@@ -2,3 +2,4 @@ pub mod Turns
 pub mod Tags
 pub mod TextOut
 pub mod RunOut
+pub mod Source
