@@ -3,3 +3,4 @@ pub mod Tags
 pub mod TextOut
 pub mod RunOut
 pub mod Source
+pub mod LineOut
