@@ -4,3 +4,4 @@ pub mod TextOut
 pub mod RunOut
 pub mod Source
 pub mod LineOut
+pub mod LineEnd
