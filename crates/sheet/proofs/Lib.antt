@@ -5,3 +5,4 @@ pub mod RunOut
 pub mod Source
 pub mod LineOut
 pub mod LineEnd
+pub mod ListOut

@@ -1,0 +1,218 @@
+-- Converting a list of the grammar writes its rows; where the limit is reached it stops among the closing tags, with one byte 10 after them.
+-- Assumes nothing.
+use Prim.Native.Nat.{ℕ, zero, suc, _+_, _≤_, _<_}
+use native.Mathlib.Omega.{arith}
+use mathlib.Core.Path.{_≡_, refl, sym, _∙_, ap, subst}
+use mathlib.Core.Bool.{Bool, true, false, not, cond}
+use mathlib.Core.Logic.{_⊎_, inl, inr, ⊎-elim}
+use mathlib.Core.Option.{Option, none, some}
+use mathlib.Core.List.{List, [], _∷_, _++_, map, reverseAux, tail, reverseAux-append, append-nil, append-assoc}
+use borrow.Author.Tests.{ltb-true, ltb-false}
+use lib.Dec.{ltb}
+use lib.ListN.{length}
+use Rattle.text.specs.Words.{str, repeat, is-empty}
+use Rattle.text.specs.Utf8.{size}
+use Rattle.text.specs.Decimal.{decimal}
+use Rattle.html.specs.State as S
+use Rattle.html.specs.State.{State, block, newline, list-changed}
+use Rattle.html.specs.Page.{loop}
+use Rattle.sheet.specs.Tree.{Run, Mark, ul, ol, Items, Item, alone, with, items}
+use Rattle.sheet.specs.Grammar as G
+use Rattle.sheet.specs.Grammar.{NL, Many, stop, more, Line, ThenNL, IsItem, is-alone, is-with, ListOf, IsList, opens, closes}
+use Rattle.sheet.specs.Written.{written-runs, Row, item, place, rows-from, lead, written-row, joined}
+use Rattle.sheet.proofs.Turns.{Low, low-front, low-tail, loop-stop}
+use Rattle.sheet.proofs.Tags.{st, loop-ul, loop-ul/, loop-ol, loop-ol/, loop-li, loop-li/}
+use Rattle.sheet.proofs.TextOut.{begins, inline}
+use Rattle.sheet.proofs.RunOut.{Tail, tag, nl-tag}
+use Rattle.sheet.proofs.LineEnd.{Ended, LineDone, line-done, nlx, newline-st, block-ended, block-newline, inline-nlx, start-nlx, start-again, start-space, nothing-begins, clean-nlx, nl-out}
+
+-- the loop has stopped: the output is v with one byte 10 after it
+pub record Stopped (x : Option State) (v : List ℕ) : Type 0 where
+  pub state : State
+  pub is : x ≡ some state
+  pub out-is : state .out ≡ 10 ∷ v
+  pub full : 16000 ≤ size (10 ∷ v)
+
+pub decide-low : (v : List ℕ) → Low v ⊎ (16000 ≤ size v)
+unfolding Low
+decide-low v = go (ltb (size v) 16000) refl
+  where
+    go : (b : Bool) → ltb (size v) 16000 ≡ b → (size v < 16000) ⊎ (16000 ≤ size v)
+    go true e = inl (ltb-true (size v) 16000 e)
+    go false e = inr (ltb-false (size v) 16000 e)
+
+pub never-stopped : {A : Type 0} {x : Option State} {v : List ℕ} → Low (10 ∷ v) → Stopped x v → A
+unfolding Low
+never-stopped {v = v} h z = let f = z .full in absurd (omega arith)
+
+pub stopped-from : {x y : Option State} {v : List ℕ} → x ≡ y → Stopped y v → Stopped x v
+stopped-from e z = record { state = z .state; is = e ∙ z .is; out-is = z .out-is; full = z .full }
+
+stopped-as : {x : Option State} {v w : List ℕ} → v ≡ w → Stopped x v → Stopped x w
+stopped-as {x} e z = subst (Stopped x) e z
+
+low-nlx : (x : List ℕ) → Low (nlx x) → Low x
+low-nlx x = go (inline x)
+  where
+    go : (b : Bool) → Low (cond b (10 ∷ x) x) → Low x
+    go true h = low-tail 10 x h
+    go false h = h
+
+-- the rows of a list, last first, from the start of a line
+unfoldable pub rowsr : List Row → List ℕ → List ℕ
+rowsr [] o = o
+rowsr (r ∷ []) o = reverseAux (written-row r) o
+rowsr (r ∷ q ∷ rs) o = rowsr (q ∷ rs) (10 ∷ reverseAux (written-row r) o)
+
+pub rowsr-joined : (rs : List Row) (o : List ℕ) → rowsr rs o ≡ reverseAux (joined (str "\n") (map written-row rs)) o
+unfolding rowsr joined
+rowsr-joined [] o = refl
+rowsr-joined (r ∷ []) o = refl
+rowsr-joined (r ∷ q ∷ rs) o = rowsr-joined (q ∷ rs) (10 ∷ reverseAux (written-row r) o) ∙ sym (reverseAux-append (written-row r) (10 ∷ joined (str "\n") (map written-row (q ∷ rs))) o)
+
+low-rows : (rs : List Row) (o : List ℕ) → Low (rowsr rs o) → Low o
+low-rows rs o h = low-front (joined (str "\n") (map written-row rs)) o (subst Low (rowsr-joined rs o) h)
+
+rowsr-append : (a : Row) (aa : List Row) (b : Row) (bs : List Row) (o : List ℕ) → rowsr ((a ∷ aa) ++ (b ∷ bs)) o ≡ rowsr (b ∷ bs) (10 ∷ rowsr (a ∷ aa) o)
+unfolding rowsr
+rowsr-append a [] b bs o = refl
+rowsr-append a (c ∷ aa) b bs o = rowsr-append c aa b bs (10 ∷ reverseAux (written-row a) o)
+
+one-row : (r : Row) (y : List ℕ) → reverseAux (written-row r) y ≡ rowsr (r ∷ []) y
+unfolding rowsr
+one-row r y = refl
+
+more-rows : (r q : Row) (rs : List Row) (y : List ℕ) → rowsr (q ∷ rs) (10 ∷ reverseAux (written-row r) y) ≡ rowsr (r ∷ q ∷ rs) y
+unfolding rowsr
+more-rows r q rs y = refl
+
+pub row-eq : (a b wr y : List ℕ) → reverseAux wr (reverseAux (a ++ b) y) ≡ reverseAux (a ++ (b ++ wr)) y
+row-eq a b wr y = sym (reverseAux-append (a ++ b) wr y) ∙ ap (λ (z : List ℕ). reverseAux z y) (append-assoc a b wr)
+
+-- the rows of an item: its own, and those of the list in it
+abbrev own-row : ℕ → Mark → ℕ → Item → Row
+own-row d m n (alone l) = item d (place m n) l
+own-row d m n (with l k sub) = item d (place m n) l
+
+abbrev sub-rows : ℕ → Item → List Row
+sub-rows d (alone l) = []
+sub-rows d (with l k sub) = rows-from (suc d) k 1 sub
+
+rows-cons : (d : ℕ) (m : Mark) (n : ℕ) (it : Item) (its : List Item) → rows-from d m n (items (it ∷ its)) ≡ (own-row d m n it ∷ sub-rows d it) ++ rows-from d m (suc n) (items its)
+unfolding rows-from
+rows-cons d m n (alone l) its = refl
+rows-cons d m n (with l k sub) its = refl
+
+last-rows : (d : ℕ) (m : Mark) (n : ℕ) (rs : List Row) → rs ++ rows-from d m n (items []) ≡ rs
+unfolding rows-from
+last-rows d m n rs = append-nil rs
+
+-- v, or v with one byte 10 after it
+abbrev After : List ℕ → List ℕ → Type 0
+After x v = (x ≡ v) ⊎ (x ≡ 10 ∷ v)
+
+after-nlx : (x v : List ℕ) → After x v → Ended v → nlx x ≡ 10 ∷ v
+after-nlx x v (inl e) h = ap nlx e ∙ inline-nlx v h
+after-nlx x v (inr e) h = ap nlx e ∙ start-nlx v
+
+after-space : (x v : List ℕ) → After x v → Ended v → begins 32 x ≡ false
+after-space x v (inl e) h = ap (begins 32) e ∙ h .no-space
+after-space x v (inr e) h = ap (begins 32) e ∙ start-space v
+
+-- from s to r the output goes from x to v, at the end of a line or past it; or the loop stops past it
+data Did (s r l : List ℕ) (p p' : ℕ) (x : List ℕ) (b : Bool) (v : List ℕ) : Type 0 where
+  reached : (x' : List ℕ) (b' : Bool) → Low x' → loop 0 s (st (p ∷ l) x b) ≡ loop 0 r (st (p' ∷ l) x' b') → After x' v → Did s r l p p' x b v
+  stopped : Stopped (loop 0 s (st (p ∷ l) x b)) v → Did s r l p p' x b v
+
+-- after a list
+abbrev pub leave : List ℕ → List ℕ → State
+leave l v = cond (is-empty l) (st l (10 ∷ 10 ∷ v) false) (st l (10 ∷ v) false)
+
+pub data Left (s r l x : List ℕ) (b : Bool) (v : List ℕ) : Type 0 where
+  left : loop 0 s (st l x b) ≡ loop 0 r (leave l v) → Left s r l x b v
+  stopped : Stopped (loop 0 s (st l x b)) v → Left s r l x b v
+
+pub record ListDone (l s : List ℕ) (m : Mark) (its : Items) (r x : List ℕ) (b : Bool) : Type 0 where
+  pub does : Low (rowsr (rows-from (length l) m 1 its) (nlx x)) → Left s r l x b (rowsr (rows-from (length l) m 1 its) (nlx x))
+  pub ended : Ended (rowsr (rows-from (length l) m 1 its) (nlx x))
+  pub first : Row
+  pub others : List Row
+  pub rows-are : rows-from (length l) m 1 its ≡ first ∷ others
+  pub tagged-at : List ℕ
+  pub at-a-tag : s ≡ 60 ∷ tagged-at
+
+-- d lists may be opened
+abbrev ListsOut : ℕ → (List ℕ → Mark → Items → List ℕ → Type 0) → Type 0
+ListsOut d L = (s : List ℕ) (m : Mark) (its : Items) (r : List ℕ) → L s m its r → (l x : List ℕ) (b : Bool) → length l + d ≤ 8 → begins 32 x ≡ false → ListDone l s m its r x b
+
+tail-of : {s r r' : List ℕ} → NL s r → r ≡ 60 ∷ r' → Tail s
+tail-of {r' = r'} G.no-nl e = subst Tail (sym e) (tag r')
+tail-of {r' = r'} G.nl e = subst (λ (r : List ℕ). Tail (10 ∷ r)) (sym e) (nl-tag r')
+
+-- into an item: its line can start
+li-st : (m : Mark) (k : ℕ) (l y : List ℕ) → S.item (place m (suc k) ∷ l) (st (place m (suc k) ∷ l) y false) ≡ st (place m (suc (suc k)) ∷ l) (reverseAux (repeat (length l) "  " ++ lead (place m (suc k))) y) false
+unfolding S.item
+li-st ul k l y = refl
+li-st ol k l y = ap (λ (w : List ℕ). st (suc (suc k) ∷ l) (reverseAux w y) false) (append-assoc (repeat (length l) "  ") (decimal (suc k)) (str ". "))
+
+li-in : (m : Mark) (k : ℕ) (l x : List ℕ) (b : Bool) (s : List ℕ) → Low x → begins 32 x ≡ false
+  → loop 0 (str "<li>" ++ s) (st (place m (suc k) ∷ l) x b) ≡ loop 0 s (st (place m (suc (suc k)) ∷ l) (reverseAux (repeat (length l) "  " ++ lead (place m (suc k))) (nlx x)) false)
+li-in m k l x b s h e =
+    loop-li (place m (suc k) ∷ l) x b s h
+    ∙ ap (λ (c : State). loop 0 s (S.item (place m (suc k) ∷ l) c)) (newline-st (place m (suc k) ∷ l) x b e)
+    ∙ ap (loop 0 s) (li-st m k l (nlx x))
+
+-- past the list in an item, and its closing tag
+past-list : {s s₁ s₃ r : List ℕ} (l : List ℕ) (p p' : ℕ) (x : List ℕ) (b : Bool) (v w w' : List ℕ) (b₁ : Bool) → NL s₃ (str "</li>" ++ r)
+  → loop 0 s (st (p ∷ l) x b) ≡ loop 0 s₁ (st (p' ∷ l) v b₁) → w ≡ w' → Left s₁ s₃ (p' ∷ l) v b₁ w → Did s r l p p' x b w'
+past-list l p p' x b v w w' b₁ n e y (stopped z) = stopped (stopped-as y (stopped-from e z))
+past-list {s = s} {s₃ = s₃} {r = r} l p p' x b v w w' b₁ n e y (left f) = go (decide-low (10 ∷ w))
+  where
+    g : (b' : Bool) × (Low (10 ∷ w) → loop 0 s₃ (st (p' ∷ l) (10 ∷ w) false) ≡ loop 0 (str "</li>" ++ r) (st (p' ∷ l) (10 ∷ w) b'))
+    g = nl-out (p' ∷ l) (10 ∷ w) false n refl
+    go : Low (10 ∷ w) ⊎ (16000 ≤ size (10 ∷ w)) → Did s r l p p' x b w'
+    go (inl h) = reached (10 ∷ w) (g .0) h (e ∙ f ∙ g .1 h ∙ loop-li/ (p' ∷ l) (10 ∷ w) (g .0) r h) (inr (ap (λ (v : List ℕ). 10 ∷ v) y))
+    go (inr k) = stopped (stopped-as y (record { state = st (p' ∷ l) (10 ∷ w) false; is = e ∙ f ∙ loop-stop s₃ (st (p' ∷ l) (10 ∷ w) false) k; out-is = refl; full = k }))
+
+module _ (d : ℕ) (L : List ℕ → Mark → Items → List ℕ → Type 0) (lists : ListsOut d L) where
+  -- an item, from x on, where its output is low
+  record ItemDone (s r l : List ℕ) (m : Mark) (k : ℕ) (it : Item) (x : List ℕ) (b : Bool) : Type 0 where
+    does : Low (rowsr (own-row (length l) m (suc k) it ∷ sub-rows (length l) it) (nlx x))
+      → Did s r l (place m (suc k)) (place m (suc (suc k))) x b (rowsr (own-row (length l) m (suc k) it ∷ sub-rows (length l) it) (nlx x))
+    ended : Ended (rowsr (own-row (length l) m (suc k) it ∷ sub-rows (length l) it) (nlx x))
+
+  item-out : {s r : List ℕ} {it : Item} → IsItem L s it r → (m : Mark) (k : ℕ) (l x : List ℕ) (b : Bool) → length l + suc d ≤ 8 → begins 32 x ≡ false → ItemDone s r l m k it x b
+  item-out (is-alone {s = s} {r = r} {l = lr} ln) m k l x b c e =
+      let o = reverseAux (repeat (length l) "  " ++ lead (place m (suc k))) (nlx x) in
+      let l' = place m (suc (suc k)) ∷ l in
+      let g = line-done l' ln (tag (str "/li>" ++ r)) o in
+      let v = reverseAux (written-runs lr) o in
+      let z = row-eq (repeat (length l) "  ") (lead (place m (suc k))) (written-runs lr) (nlx x) ∙ one-row (item (length l) (place m (suc k)) lr) (nlx x) in
+      record {
+        does = λ h.
+          let h' : Low v = subst Low (sym z) h in
+          reached v false h' (li-in m k l x b s (low-nlx x (low-rows (item (length l) (place m (suc k)) lr ∷ []) (nlx x) h)) e ∙ g .eq h' ∙ loop-li/ l' v false r h') (inl z);
+        ended = subst Ended z (g .ended) }
+  item-out (is-with {s = s} {s₁ = s₁} {s₂ = s₂} {s₃ = s₃} {r = r} {l = lr} {m = m'} {its = its} ln n q n') m k l x b c e =
+      let o = reverseAux (repeat (length l) "  " ++ lead (place m (suc k))) (nlx x) in
+      let l' = place m (suc (suc k)) ∷ l in
+      let c' : length l' + d ≤ 8 = omega arith in
+      let v = reverseAux (written-runs lr) o in
+      let t = lists s₂ m' its s₃ q l' [] false c' nothing-begins .at-a-tag in
+      let g = line-done l' ln (tail-of n t) o in
+      let i = nl-out l' v false n t in
+      let j = lists s₂ m' its s₃ q l' v (i .0) c' (g .ended .no-space) in
+      let w = rowsr (rows-from (length l') m' 1 its) (nlx v) in
+      let z = row-eq (repeat (length l) "  ") (lead (place m (suc k))) (written-runs lr) (nlx x) in
+      let y : w ≡ rowsr (item (length l) (place m (suc k)) lr ∷ rows-from (length l') m' 1 its) (nlx x) =
+        ap (λ (rs : List Row). rowsr rs (nlx v)) (j .rows-are)
+        ∙ ap (rowsr (j .first ∷ j .others)) (inline-nlx v (g .ended) ∙ ap (λ (v : List ℕ). 10 ∷ v) z)
+        ∙ more-rows (item (length l) (place m (suc k)) lr) (j .first) (j .others) (nlx x)
+        ∙ ap (λ (rs : List Row). rowsr (item (length l) (place m (suc k)) lr ∷ rs) (nlx x)) (sym (j .rows-are)) in
+      record {
+        does = λ h.
+          let hw : Low w = subst Low (sym y) h in
+          let hv : Low v = low-nlx v (low-rows (rows-from (length l') m' 1 its) (nlx v) hw) in
+          let hx : Low x = low-nlx x (low-rows (item (length l) (place m (suc k)) lr ∷ rows-from (length l') m' 1 its) (nlx x) h) in
+          past-list l (place m (suc k)) (place m (suc (suc k))) x b v w _ (i .0) n' (li-in m k l x b s hx e ∙ g .eq hv ∙ i .1 hv) y (j .does hw);
+        ended = subst Ended y (j .ended) }
