@@ -216,3 +216,136 @@ module _ (d : ℕ) (L : List ℕ → Mark → Items → List ℕ → Type 0) (li
           let hx : Low x = low-nlx x (low-rows (item (length l) (place m (suc k)) lr ∷ rows-from (length l') m' 1 its) (nlx x) h) in
           past-list l (place m (suc k)) (place m (suc (suc k))) x b v w _ (i .0) n' (li-in m k l x b s hx e ∙ g .eq hv ∙ i .1 hv) y (j .does hw);
         ended = subst Ended y (j .ended) }
+
+-- NL? after an item, and what came before it
+then-nl : {s r r' r'' : List ℕ} (l : List ℕ) (p p' : ℕ) (x : List ℕ) (b : Bool) (v : List ℕ) → NL r r' → r' ≡ 60 ∷ r'' → Did s r l p p' x b v → Did s r' l p p' x b v
+then-nl l p p' x b v n e (stopped z) = stopped z
+then-nl l p p' x b v n e (reached x' b' h f a) = let g = nl-out (p' ∷ l) x' b' n e in reached x' (g .0) h (f ∙ g .1 h) a
+
+did-before : {s s' r : List ℕ} (l : List ℕ) (p p₁ p' : ℕ) (x x₁ : List ℕ) (b b₁ : Bool) (v v' : List ℕ) → loop 0 s (st (p ∷ l) x b) ≡ loop 0 s' (st (p₁ ∷ l) x₁ b₁) → v ≡ v' → Did s' r l p₁ p' x₁ b₁ v → Did s r l p p' x b v'
+did-before l p p₁ p' x x₁ b b₁ v v' e y (stopped z) = stopped (stopped-as y (stopped-from e z))
+did-before l p p₁ p' x x₁ b b₁ v v' e y (reached x' b' h f a) = reached x' b' h (e ∙ f) (subst (After x') y a)
+
+-- the items of a list from one on; what number the list has then does not matter
+record ItemsDone (s r l : List ℕ) (p : ℕ) (x : List ℕ) (b : Bool) (rs : List Row) : Type 0 where
+  does : Low (rowsr rs (nlx x)) → (p' : ℕ) × Did s r l p p' x b (rowsr rs (nlx x))
+  ended : Ended (rowsr rs (nlx x))
+  first : Row
+  others : List Row
+  rows-are : rs ≡ first ∷ others
+
+-- an item that reached x', and the items after it
+items-after : {s s' r : List ℕ} (l : List ℕ) (p p₁ : ℕ) (x : List ℕ) (b : Bool) (v v⁺ : List ℕ) (rs : List Row) → Ended v → rowsr rs (10 ∷ v) ≡ v⁺ → Low v⁺
+  → ((x : List ℕ) (b : Bool) → begins 32 x ≡ false → ItemsDone s' r l p₁ x b rs) → Did s s' l p p₁ x b v → (p' : ℕ) × Did s r l p p' x b v⁺
+items-after l p p₁ x b v v⁺ rs g z h ih (stopped k) = never-stopped (low-rows rs (10 ∷ v) (subst Low (sym z) h)) k
+items-after l p p₁ x b v v⁺ rs g z h ih (reached x' b' k f a) =
+    let y : rowsr rs (nlx x') ≡ v⁺ = ap (rowsr rs) (after-nlx x' v a g) ∙ z in
+    let i = ih x' b' (after-space x' v a g) .does (subst Low (sym y) h) in
+    (i .0, did-before l p p₁ (i .0) x x' b b' _ v⁺ f y (i .1))
+
+module _ (d : ℕ) (L : List ℕ → Mark → Items → List ℕ → Type 0) (lists : ListsOut d L) where
+  items-start : {s r : List ℕ} {xs : List Item} → Many (ThenNL (IsItem L)) s xs r → (r' : List ℕ) → r ≡ 60 ∷ r' → (s' : List ℕ) × (s ≡ 60 ∷ s')
+  items-start stop r' e = (r', e)
+  items-start (more (G.then (is-alone ln) n) ms) r' e = (_, refl)
+  items-start (more (G.then (is-with ln n q n') k) ms) r' e = (_, refl)
+
+  -- an item and those after it
+  items-step : {s s₁ s₂ r : List ℕ} (it : Item) (its : List Item) → IsItem L s it s₁ → NL s₁ s₂ → (s' : List ℕ) → s₂ ≡ 60 ∷ s' → Many (ThenNL (IsItem L)) s₂ its r → (m : Mark) (k : ℕ) (l x : List ℕ) (b : Bool) → length l + suc d ≤ 8 → begins 32 x ≡ false
+    → ((it' : Item) (its' : List Item) → its ≡ it' ∷ its' → (x : List ℕ) (b : Bool) → begins 32 x ≡ false → ItemsDone s₂ r l (place m (suc (suc k))) x b (rows-from (length l) m (suc (suc k)) (items its)))
+    → ItemsDone s r l (place m (suc k)) x b (rows-from (length l) m (suc k) (items (it ∷ its)))
+  items-step {s = s} it [] h n s' e (stop {s = r}) m k l x b c f ih =
+      let g = item-out d L lists h m k l x b c f in
+      let v = rowsr (own-row (length l) m (suc k) it ∷ sub-rows (length l) it) (nlx x) in
+      let z : own-row (length l) m (suc k) it ∷ sub-rows (length l) it ≡ rows-from (length l) m (suc k) (items (it ∷ [])) = sym (rows-cons (length l) m (suc k) it [] ∙ last-rows (length l) m (suc (suc k)) (own-row (length l) m (suc k) it ∷ sub-rows (length l) it)) in
+      record {
+        does = subst (λ (rs : List Row). Low (rowsr rs (nlx x)) → (p' : ℕ) × Did s r l (place m (suc k)) p' x b (rowsr rs (nlx x))) z
+          (λ h. (place m (suc (suc k)), then-nl l (place m (suc k)) (place m (suc (suc k))) x b v n e (g .does h)));
+        ended = subst (λ (rs : List Row). Ended (rowsr rs (nlx x))) z (g .ended);
+        first = own-row (length l) m (suc k) it;
+        others = sub-rows (length l) it;
+        rows-are = sym z }
+  items-step {s = s} {r = r} it (it' ∷ its) h n s' e ms m k l x b c f ih =
+      let g = item-out d L lists h m k l x b c f in
+      let v = rowsr (own-row (length l) m (suc k) it ∷ sub-rows (length l) it) (nlx x) in
+      let rs = rows-from (length l) m (suc (suc k)) (items (it' ∷ its)) in
+      let i = ih it' its refl (10 ∷ v) false (start-space v) in
+      let z : rowsr rs (10 ∷ v) ≡ rowsr (rows-from (length l) m (suc k) (items (it ∷ it' ∷ its))) (nlx x) =
+        ap (λ (rs : List Row). rowsr rs (10 ∷ v)) (i .rows-are)
+        ∙ sym (rowsr-append (own-row (length l) m (suc k) it) (sub-rows (length l) it) (i .first) (i .others) (nlx x))
+        ∙ ap (λ (rs : List Row). rowsr ((own-row (length l) m (suc k) it ∷ sub-rows (length l) it) ++ rs) (nlx x)) (sym (i .rows-are))
+        ∙ ap (λ (rs : List Row). rowsr rs (nlx x)) (sym (rows-cons (length l) m (suc k) it (it' ∷ its))) in
+      record {
+        does = λ j.
+          let hv : Low v = low-tail 10 v (low-rows rs (10 ∷ v) (subst Low (sym z) j)) in
+          items-after l (place m (suc k)) (place m (suc (suc k))) x b v _ rs (g .ended) z j (λ x b f. ih it' its refl x b f)
+          (then-nl l (place m (suc k)) (place m (suc (suc k))) x b v n e (g .does hv));
+        ended = subst Ended (ap (rowsr rs) (start-nlx v) ∙ z) (i .ended);
+        first = own-row (length l) m (suc k) it;
+        others = sub-rows (length l) it ++ rows-from (length l) m (suc (suc k)) (items (it' ∷ its));
+        rows-are = rows-cons (length l) m (suc k) it (it' ∷ its) }
+
+  items-out : {s r : List ℕ} {xs : List Item} → Many (ThenNL (IsItem L)) s xs r → (r' : List ℕ) → r ≡ 60 ∷ r' → (it : Item) (its : List Item) → xs ≡ it ∷ its → (m : Mark) (k : ℕ) (l x : List ℕ) (b : Bool) → length l + suc d ≤ 8 → begins 32 x ≡ false
+    → ItemsDone s r l (place m (suc k)) x b (rows-from (length l) m (suc k) (items xs))
+  items-out stop r' e it its z m k l x b c f = let q : _≡_ {A = ℕ} 0 1 = cc in absurd (omega arith)
+  items-out (more {x = y} {xs = ys} (G.then h n) ms) r' e it its z m k l x b c f =
+      let t = items-start ms r' e in
+      items-step y ys h n (t .0) (t .1) ms m k l x b c f (λ it' its' q x b f. items-out ms r' e it' its' q m (suc k) l x b c f)
+
+-- lists in lists
+
+changed : (p : ℕ) (l x : List ℕ) (b : Bool) → begins 32 x ≡ false → list-changed (p ∷ l) (st l x b) ≡ st (p ∷ l) (nlx x) false
+unfolding list-changed
+changed p l x b e = newline-st (p ∷ l) x b e
+
+changed-back : (p : ℕ) (l x v : List ℕ) (b : Bool) → After x v → Ended v → list-changed l (st (p ∷ l) x b) ≡ leave l v
+unfolding list-changed
+changed-back p l x v b a h =
+    ap (λ (c : State). cond (is-empty l) (block c) c) (newline-st l x b (after-space x v a h) ∙ ap (λ (y : List ℕ). st l y false) (after-nlx x v a h))
+    ∙ ap (λ (c : State). cond (is-empty l) c (st l (10 ∷ v) false)) (block-newline l v false h)
+
+open-list : (m : Mark) (l x : List ℕ) (b : Bool) (s : List ℕ) → Low x → length l < 64 → begins 32 x ≡ false → loop 0 (opens m ++ s) (st l x b) ≡ loop 0 s (st (place m 1 ∷ l) (nlx x) false)
+open-list ul l x b s h k e = loop-ul l x b s h k ∙ ap (loop 0 s) (changed 0 l x b e)
+open-list ol l x b s h k e = loop-ol l x b s h k ∙ ap (loop 0 s) (changed 1 l x b e)
+
+close-list : (m : Mark) (p : ℕ) (l x v : List ℕ) (b : Bool) (s : List ℕ) → Low x → After x v → Ended v → loop 0 (closes m ++ s) (st (p ∷ l) x b) ≡ loop 0 s (leave l v)
+close-list ul p l x v b s k a h = loop-ul/ (p ∷ l) x b s k ∙ ap (loop 0 s) (changed-back p l x v b a h)
+close-list ol p l x v b s k a h = loop-ol/ (p ∷ l) x b s k ∙ ap (loop 0 s) (changed-back p l x v b a h)
+
+closes-at : (m : Mark) (r : List ℕ) → (r' : List ℕ) × (closes m ++ r ≡ 60 ∷ r')
+closes-at ul r = (_, refl)
+closes-at ol r = (_, refl)
+
+opens-at : (m : Mark) (r : List ℕ) → (r' : List ℕ) × (opens m ++ r ≡ 60 ∷ r')
+opens-at ul r = (_, refl)
+opens-at ol r = (_, refl)
+
+-- past the items, and the closing tag
+past-items : {s s' r : List ℕ} (m : Mark) (l x : List ℕ) (b : Bool) (p p' : ℕ) (x' : List ℕ) (b' : Bool) (v v' : List ℕ) → Ended v → v ≡ v' → loop 0 s (st l x b) ≡ loop 0 s' (st (p ∷ l) x' b') → Did s' (closes m ++ r) l p p' x' b' v → Left s r l x b v'
+past-items m l x b p p' x' b' v v' g y e (stopped z) = stopped (stopped-as y (stopped-from e z))
+past-items {r = r} m l x b p p' x' b' v v' g y e (reached x'' b'' h f a) =
+    left (e ∙ f ∙ close-list m p' l x'' v b'' r h a g ∙ ap (λ (v : List ℕ). loop 0 r (leave l v)) y)
+
+list-out : (d : ℕ) (L : List ℕ → Mark → Items → List ℕ → Type 0) → ListsOut d L → ListsOut (suc d) (ListOf (IsItem L))
+list-out d L lists s _ its r (G.is-list {s = s₀} {s₁ = s₁} {it = it} {its = xs} m n q) l x b k e =
+    let c = closes-at m r in
+    let t = items-start d L lists q (c .0) (c .1) in
+    let g = nl-out (place m 1 ∷ l) (nlx x) false n (t .1) in
+    let i = items-out d L lists q (c .0) (c .1) it xs refl m 0 l (nlx x) (g .0) k (clean-nlx x e) in
+    let rs = rows-from (length l) m 1 (items (it ∷ xs)) in
+    let z : rowsr rs (nlx (nlx x)) ≡ rowsr rs (nlx x) = ap (rowsr rs) (start-again x) in
+    let a = opens-at m s₀ in
+    record {
+      does = λ h.
+        let h' : Low (nlx x) = low-rows rs (nlx x) h in
+        let j = i .does (subst Low (sym z) h) in
+        past-items m l x b (place m 1) (j .0) (nlx x) (g .0) _ _ (i .ended) z (open-list m l x b s₀ (low-nlx x h') (omega arith) e ∙ g .1 h') (j .1);
+      ended = subst Ended z (i .ended);
+      first = i .first;
+      others = i .others;
+      rows-are = i .rows-are;
+      tagged-at = a .0;
+      at-a-tag = a .1 }
+
+pub lists-out : (d : ℕ) → ListsOut d (IsList d)
+lists-out zero s m its r h = absurd h
+lists-out (suc d) s m its r h = list-out d (IsList d) (lists-out d) s m its r h
