@@ -6,3 +6,4 @@ pub mod Source
 pub mod LineOut
 pub mod LineEnd
 pub mod ListOut
+pub mod PageOut
