@@ -7,3 +7,4 @@ pub mod LineOut
 pub mod LineEnd
 pub mod ListOut
 pub mod PageOut
+pub mod Trimmed

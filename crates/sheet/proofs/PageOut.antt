@@ -243,7 +243,7 @@ wr-written (more {x = b} {xs = bs} (G.then h n) ms) =
     ∙ sym (reverseAux-append (written-block b) (after-first bs) [])
     ∙ ap reverse (sym (written-first b bs))
 
-pub wr-ended : {s : List ℕ} {bs : List Block} → Many (ThenNL IsBlock) s bs [] → (w : List ℕ) → Ended w ⊎ (w ≡ []) → Ended (wr bs w) ⊎ (wr bs w ≡ [])
+pub wr-ended : {s : List ℕ} {bs : List Block} → Many (ThenNL IsBlock) s bs [] → (w : List ℕ) → Ended w → Ended (wr bs w)
 unfolding wr
 wr-ended stop w z = z
-wr-ended (more (G.then h n) ms) w z = wr-ended ms _ (inl (block-out h w .ended))
+wr-ended (more (G.then h n) ms) w z = wr-ended ms _ (block-out h w .ended)
