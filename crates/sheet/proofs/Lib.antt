@@ -8,3 +8,4 @@ pub mod LineEnd
 pub mod ListOut
 pub mod PageOut
 pub mod Trimmed
+pub mod PageSize

@@ -90,15 +90,15 @@ pub row-eq : (a b wr y : List ℕ) → reverseAux wr (reverseAux (a ++ b) y) ≡
 row-eq a b wr y = sym (reverseAux-append (a ++ b) wr y) ∙ ap (λ (z : List ℕ). reverseAux z y) (append-assoc a b wr)
 
 -- the rows of an item: its own, and those of the list in it
-abbrev own-row : ℕ → Mark → ℕ → Item → Row
+abbrev pub own-row : ℕ → Mark → ℕ → Item → Row
 own-row d m n (alone l) = item d (place m n) l
 own-row d m n (with l k sub) = item d (place m n) l
 
-abbrev sub-rows : ℕ → Item → List Row
+abbrev pub sub-rows : ℕ → Item → List Row
 sub-rows d (alone l) = []
 sub-rows d (with l k sub) = rows-from (suc d) k 1 sub
 
-rows-cons : (d : ℕ) (m : Mark) (n : ℕ) (it : Item) (its : List Item) → rows-from d m n (items (it ∷ its)) ≡ (own-row d m n it ∷ sub-rows d it) ++ rows-from d m (suc n) (items its)
+pub rows-cons : (d : ℕ) (m : Mark) (n : ℕ) (it : Item) (its : List Item) → rows-from d m n (items (it ∷ its)) ≡ (own-row d m n it ∷ sub-rows d it) ++ rows-from d m (suc n) (items its)
 unfolding rows-from
 rows-cons d m n (alone l) its = refl
 rows-cons d m n (with l k sub) its = refl
