@@ -9,3 +9,4 @@ pub mod ListOut
 pub mod PageOut
 pub mod Trimmed
 pub mod PageSize
+pub mod Converts

@@ -1,18 +1,16 @@
 -- How a line ends, and what the converter's `newline` and `block` make of that.
 -- Assumes nothing.
-use Prim.Native.Nat.{ℕ, zero, suc, _≤_, _<_}
-use native.Mathlib.Omega.{arith}
+use Prim.Native.Nat.{ℕ}
 use mathlib.Core.Path.{_≡_, refl, sym, _∙_, ap, subst}
 use mathlib.Core.Bool.{Bool, true, false, not, _&&_, _||_, cond}
-use mathlib.Core.Logic.{_⊎_, inl, inr}
 use mathlib.Core.List.{List, [], _∷_, _++_, reverseAux, reverseAux-append, append-nil}
 use borrow.Author.Tests.{not-true}
 use lib.Dec.{eqb}
 use Rattle.text.specs.Words.{str, is, drop-while}
 use Rattle.text.specs.Chars.{is-space}
-use Rattle.html.specs.State.{State, line-start, special, block, newline}
+use Rattle.html.specs.State.{line-start, special, block, newline}
 use Rattle.html.specs.Page.{loop}
-use Rattle.sheet.specs.Tree.{Kind, plain, strong, em, both, code, Run, run}
+use Rattle.sheet.specs.Tree.{plain, strong, em, both, code, Run, run}
 use Rattle.sheet.specs.Grammar as G
 use Rattle.sheet.specs.Grammar.{NL, Many, stop, more, IsRun, is-run, Line, last-is, no-blank, apart, first-letter, last-no-blank, neat}
 use Rattle.sheet.specs.Written.{escaped, written-run, written-runs}
@@ -40,8 +38,10 @@ last-char x o e v = go (special x)
   where
     w : is-space x ≡ false
     w = not-true (is-space x) (ap (λ (b : Bool). b || not (is-space x)) (sym e) ∙ v)
+
     n : not (eqb x 10) ≡ true
     n = ap not (not-newline x w)
+
     go : (b : Bool) → Ended (reverseAux (cond b (92 ∷ x ∷ []) (x ∷ []) ++ []) o)
     go true = record { no-space = e; is-inline = n; solid = w }
     go false = record { no-space = e; is-inline = n; solid = w }
@@ -162,6 +162,7 @@ clean-nlx x e = go (inline x)
 -- NL? before a tag: only what is pending may change
 pub nl-out : (l o : List ℕ) (b : Bool) {s r r' : List ℕ} → NL s r → r ≡ 60 ∷ r' → (b' : Bool) × (Low o → loop 0 s (st l o b) ≡ loop 0 r (st l o b'))
 nl-out l o b G.no-nl e = (b, λ h. refl)
-nl-out l o b {r' = r'} (G.nl {s}) e =
-    (not (line-start o),
-      λ h. ap (λ (r : List ℕ). loop 0 (10 ∷ r) (st l o b)) e ∙ nl-loop l o r' b h ∙ ap (λ (r : List ℕ). loop 0 r (st l o (not (line-start o)))) (sym e))
+nl-out l o b {r' = r'} (G.nl {s}) e = (
+  not (line-start o),
+  λ h. ap (λ (r : List ℕ). loop 0 (10 ∷ r) (st l o b)) e ∙ nl-loop l o r' b h ∙ ap (λ (r : List ℕ). loop 0 r (st l o (not (line-start o)))) (sym e),
+)

@@ -3,24 +3,22 @@
 use Prim.Native.Nat.{ℕ}
 use native.Mathlib.Omega.{arith}
 use mathlib.Core.Path.{_≡_, refl, sym, _∙_, ap, subst}
-use mathlib.Core.Bool.{Bool, true, false, not, _&&_, cond, and-false}
+use mathlib.Core.Bool.{Bool, true, false, not, cond, and-false}
 use mathlib.Core.List.{List, [], _∷_, _++_, reverseAux, reverseAux-append, append-nil}
-use borrow.Author.Tests.{not-true}
 use lib.Dec.{eqb}
 use Rattle.text.specs.Words.{str}
 use Rattle.text.specs.Chars.{is-space, is-letter}
-use Rattle.html.specs.State.{State, line-start, spaced, special, ends-with-digit, escape, put, next, put-all}
+use Rattle.html.specs.State.{State, spaced, ends-with-digit, escape, put, next, put-all}
 use Rattle.html.specs.Page.{loop}
 use Rattle.sheet.specs.Tree.{Kind, plain, strong, em, both, code, Run, run}
-use Rattle.sheet.specs.Grammar as G
-use Rattle.sheet.specs.Grammar.{Many, stop, more, Text, IsRun, is-run, Line, first-is, last-is, no-blank, fits, touch, apart, first-letter, last-no-blank, neat, before, after}
-use Rattle.sheet.specs.Written.{escaped, sign, written-run, written-runs}
+use Rattle.sheet.specs.Grammar.{Many, stop, more, Text, IsRun, is-run, first-is, last-is, no-blank, fits, touch, apart, first-letter, before, after}
+use Rattle.sheet.specs.Written.{escaped, written-run, written-runs}
 use Rattle.sheet.specs.Sound.{and-inv}
 use Rattle.sheet.proofs.Turns.{Low, low-front}
 use Rattle.sheet.proofs.Tags.{st}
-use Rattle.sheet.proofs.TextOut.{begins, inline, singly, shielded, hold, held, hold-spaced, put-text, not-newline}
-use Rattle.sheet.proofs.RunOut.{Raw, Tail, tag, nl-tag, Ready, text-out, run-plain, ran, wrapped, run-strong, run-em, run-code, run-both}
-use Rattle.sheet.proofs.Source.{false-true, Known, known, InTags, ends-of, valid, valid-of, Letter, a-letter, no-letter, letter-space, letter-special, letter-leading}
+use Rattle.sheet.proofs.TextOut.{begins, inline, singly, hold, held, hold-spaced, put-text}
+use Rattle.sheet.proofs.RunOut.{Tail, tag, Ready, text-out, run-plain, ran, wrapped, run-strong, run-em, run-code, run-both}
+use Rattle.sheet.proofs.Source.{false-true, Known, known, InTags, ends-of, Letter, a-letter, no-letter, letter-space, letter-special, letter-leading}
 
 -- where a plain run ends, a tag stands, or the line ends
 at-tag : {m r : List ℕ} {rs : List Run} (t : List ℕ) → Many IsRun m rs r → apart (run plain t ∷ rs) ≡ true → Tail r → Tail m
@@ -94,7 +92,7 @@ plain-out l s c t v m q f =
 -- a run and the runs after it
 module _ (l : List ℕ) where
   joins : (s m r : List ℕ) (c : State) (x : Run) (rs : List Run) (v : List ℕ) → Writes l s c m (written-run x) v
-    → Writes l m (hold l (reverseAux (written-run x) v)) r (written-runs rs) (reverseAux (written-run x) v) → Writes l s c r (written-runs (x ∷ rs)) v
+      → Writes l m (hold l (reverseAux (written-run x) v)) r (written-runs rs) (reverseAux (written-run x) v) → Writes l s c r (written-runs (x ∷ rs)) v
   unfolding written-runs
   joins s m r c x rs v f g =
       subst (λ (y : List ℕ). Low y → loop 0 s c ≡ loop 0 r (hold l y)) (sym (reverseAux-append (written-run x) (written-runs rs) v))
@@ -102,7 +100,7 @@ module _ (l : List ℕ) where
 
   -- a run after another one
   run-out : (s t m : List ℕ) (k : Kind) → Text s t (after k ++ m) → fits k t ≡ true → (k₀ : Kind) (v : List ℕ) → not (touch k₀ k) ≡ true → AfterRun k₀ v → (k ≡ plain → Tail m)
-    → Writes l (before k ++ s) (hold l v) m (written-run (run k t)) v
+      → Writes l (before k ++ s) (hold l v) m (written-run (run k t)) v
   run-out s t m plain T f k₀ v n a z =
       let q = known plain T f in
       let g = marked k₀ v n a in
@@ -165,7 +163,7 @@ module _ (l : List ℕ) where
   put-first (x ∷ t) o w f = put-letter x (a-letter x f) l t o w
 
   first-out : (s t m : List ℕ) (k : Kind) → Text s t (after k ++ m) → fits k t ≡ true → first-is is-letter t ≡ true → (o : List ℕ) → (k ≡ plain → Tail m)
-    → Writes l (before k ++ s) (st l o false) m (written-run (run k t)) o
+      → Writes l (before k ++ s) (st l o false) m (written-run (run k t)) o
   first-out s t m plain T f g o z =
       let q = known plain T f in
       plain-out l s (st l o false) t o m q (λ h. text-out l (q .from .raw) t o (reverseAux (escaped t) o) false (z refl) (q .from .source) (low-front (escaped t) o h) h (put-first t o (q .is-singly) g))

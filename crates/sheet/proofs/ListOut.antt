@@ -3,10 +3,10 @@
 use Prim.Native.Nat.{ℕ, zero, suc, _+_, _≤_, _<_}
 use native.Mathlib.Omega.{arith}
 use mathlib.Core.Path.{_≡_, refl, sym, _∙_, ap, subst}
-use mathlib.Core.Bool.{Bool, true, false, not, cond}
-use mathlib.Core.Logic.{_⊎_, inl, inr, ⊎-elim}
-use mathlib.Core.Option.{Option, none, some}
-use mathlib.Core.List.{List, [], _∷_, _++_, map, reverseAux, tail, reverseAux-append, append-nil, append-assoc}
+use mathlib.Core.Bool.{Bool, true, false, cond}
+use mathlib.Core.Logic.{_⊎_, inl, inr}
+use mathlib.Core.Option.{Option, some}
+use mathlib.Core.List.{List, [], _∷_, _++_, map, reverseAux, reverseAux-append, append-nil, append-assoc}
 use borrow.Author.Tests.{ltb-true, ltb-false}
 use lib.Dec.{ltb}
 use lib.ListN.{length}
@@ -14,17 +14,17 @@ use Rattle.text.specs.Words.{str, repeat, is-empty}
 use Rattle.text.specs.Utf8.{size}
 use Rattle.text.specs.Decimal.{decimal}
 use Rattle.html.specs.State as S
-use Rattle.html.specs.State.{State, block, newline, list-changed}
+use Rattle.html.specs.State.{State, block, list-changed}
 use Rattle.html.specs.Page.{loop}
-use Rattle.sheet.specs.Tree.{Run, Mark, ul, ol, Items, Item, alone, with, items}
+use Rattle.sheet.specs.Tree.{Mark, ul, ol, Items, Item, alone, with, items}
 use Rattle.sheet.specs.Grammar as G
-use Rattle.sheet.specs.Grammar.{NL, Many, stop, more, Line, ThenNL, IsItem, is-alone, is-with, ListOf, IsList, opens, closes}
+use Rattle.sheet.specs.Grammar.{NL, Many, stop, more, ThenNL, IsItem, is-alone, is-with, ListOf, IsList, opens, closes}
 use Rattle.sheet.specs.Written.{written-runs, Row, item, place, rows-from, lead, written-row, joined}
 use Rattle.sheet.proofs.Turns.{Low, low-front, low-tail, loop-stop}
 use Rattle.sheet.proofs.Tags.{st, loop-ul, loop-ul/, loop-ol, loop-ol/, loop-li, loop-li/}
 use Rattle.sheet.proofs.TextOut.{begins, inline}
 use Rattle.sheet.proofs.RunOut.{Tail, tag, nl-tag}
-use Rattle.sheet.proofs.LineEnd.{Ended, LineDone, line-done, nlx, newline-st, block-ended, block-newline, inline-nlx, start-nlx, start-again, start-space, nothing-begins, clean-nlx, nl-out}
+use Rattle.sheet.proofs.LineEnd.{Ended, line-done, nlx, newline-st, block-newline, inline-nlx, start-nlx, start-again, start-space, nothing-begins, clean-nlx, nl-out}
 
 -- the loop has stopped: the output is v with one byte 10 after it
 pub record Stopped (x : Option State) (v : List ℕ) : Type 0 where
@@ -156,7 +156,7 @@ li-st ul k l y = refl
 li-st ol k l y = ap (λ (w : List ℕ). st (suc (suc k) ∷ l) (reverseAux w y) false) (append-assoc (repeat (length l) "  ") (decimal (suc k)) (str ". "))
 
 li-in : (m : Mark) (k : ℕ) (l x : List ℕ) (b : Bool) (s : List ℕ) → Low x → begins 32 x ≡ false
-  → loop 0 (str "<li>" ++ s) (st (place m (suc k) ∷ l) x b) ≡ loop 0 s (st (place m (suc (suc k)) ∷ l) (reverseAux (repeat (length l) "  " ++ lead (place m (suc k))) (nlx x)) false)
+    → loop 0 (str "<li>" ++ s) (st (place m (suc k) ∷ l) x b) ≡ loop 0 s (st (place m (suc (suc k)) ∷ l) (reverseAux (repeat (length l) "  " ++ lead (place m (suc k))) (nlx x)) false)
 li-in m k l x b s h e =
     loop-li (place m (suc k) ∷ l) x b s h
     ∙ ap (λ (c : State). loop 0 s (S.item (place m (suc k) ∷ l) c)) (newline-st (place m (suc k) ∷ l) x b e)
@@ -164,12 +164,13 @@ li-in m k l x b s h e =
 
 -- past the list in an item, and its closing tag
 past-list : {s s₁ s₃ r : List ℕ} (l : List ℕ) (p p' : ℕ) (x : List ℕ) (b : Bool) (v w w' : List ℕ) (b₁ : Bool) → NL s₃ (str "</li>" ++ r)
-  → loop 0 s (st (p ∷ l) x b) ≡ loop 0 s₁ (st (p' ∷ l) v b₁) → w ≡ w' → Left s₁ s₃ (p' ∷ l) v b₁ w → Did s r l p p' x b w'
+    → loop 0 s (st (p ∷ l) x b) ≡ loop 0 s₁ (st (p' ∷ l) v b₁) → w ≡ w' → Left s₁ s₃ (p' ∷ l) v b₁ w → Did s r l p p' x b w'
 past-list l p p' x b v w w' b₁ n e y (stopped z) = stopped (stopped-as y (stopped-from e z))
 past-list {s = s} {s₃ = s₃} {r = r} l p p' x b v w w' b₁ n e y (left f) = go (decide-low (10 ∷ w))
   where
     g : (b' : Bool) × (Low (10 ∷ w) → loop 0 s₃ (st (p' ∷ l) (10 ∷ w) false) ≡ loop 0 (str "</li>" ++ r) (st (p' ∷ l) (10 ∷ w) b'))
     g = nl-out (p' ∷ l) (10 ∷ w) false n refl
+
     go : Low (10 ∷ w) ⊎ (16000 ≤ size (10 ∷ w)) → Did s r l p p' x b w'
     go (inl h) = reached (10 ∷ w) (g .0) h (e ∙ f ∙ g .1 h ∙ loop-li/ (p' ∷ l) (10 ∷ w) (g .0) r h) (inr (ap (λ (v : List ℕ). 10 ∷ v) y))
     go (inr k) = stopped (stopped-as y (record { state = st (p' ∷ l) (10 ∷ w) false; is = e ∙ f ∙ loop-stop s₃ (st (p' ∷ l) (10 ∷ w) false) k; out-is = refl; full = k }))
@@ -178,7 +179,7 @@ module _ (d : ℕ) (L : List ℕ → Mark → Items → List ℕ → Type 0) (li
   -- an item, from x on, where its output is low
   record ItemDone (s r l : List ℕ) (m : Mark) (k : ℕ) (it : Item) (x : List ℕ) (b : Bool) : Type 0 where
     does : Low (rowsr (own-row (length l) m (suc k) it ∷ sub-rows (length l) it) (nlx x))
-      → Did s r l (place m (suc k)) (place m (suc (suc k))) x b (rowsr (own-row (length l) m (suc k) it ∷ sub-rows (length l) it) (nlx x))
+        → Did s r l (place m (suc k)) (place m (suc (suc k))) x b (rowsr (own-row (length l) m (suc k) it ∷ sub-rows (length l) it) (nlx x))
     ended : Ended (rowsr (own-row (length l) m (suc k) it ∷ sub-rows (length l) it) (nlx x))
 
   item-out : {s r : List ℕ} {it : Item} → IsItem L s it r → (m : Mark) (k : ℕ) (l x : List ℕ) (b : Bool) → length l + suc d ≤ 8 → begins 32 x ≡ false → ItemDone s r l m k it x b
@@ -190,9 +191,10 @@ module _ (d : ℕ) (L : List ℕ → Mark → Items → List ℕ → Type 0) (li
       let z = row-eq (repeat (length l) "  ") (lead (place m (suc k))) (written-runs lr) (nlx x) ∙ one-row (item (length l) (place m (suc k)) lr) (nlx x) in
       record {
         does = λ h.
-          let h' : Low v = subst Low (sym z) h in
-          reached v false h' (li-in m k l x b s (low-nlx x (low-rows (item (length l) (place m (suc k)) lr ∷ []) (nlx x) h)) e ∙ g .eq h' ∙ loop-li/ l' v false r h') (inl z);
-        ended = subst Ended z (g .ended) }
+            let h' : Low v = subst Low (sym z) h in
+            reached v false h' (li-in m k l x b s (low-nlx x (low-rows (item (length l) (place m (suc k)) lr ∷ []) (nlx x) h)) e ∙ g .eq h' ∙ loop-li/ l' v false r h') (inl z);
+        ended = subst Ended z (g .ended);
+      }
   item-out (is-with {s = s} {s₁ = s₁} {s₂ = s₂} {s₃ = s₃} {r = r} {l = lr} {m = m'} {its = its} ln n q n') m k l x b c e =
       let o = reverseAux (repeat (length l) "  " ++ lead (place m (suc k))) (nlx x) in
       let l' = place m (suc (suc k)) ∷ l in
@@ -205,17 +207,18 @@ module _ (d : ℕ) (L : List ℕ → Mark → Items → List ℕ → Type 0) (li
       let w = rowsr (rows-from (length l') m' 1 its) (nlx v) in
       let z = row-eq (repeat (length l) "  ") (lead (place m (suc k))) (written-runs lr) (nlx x) in
       let y : w ≡ rowsr (item (length l) (place m (suc k)) lr ∷ rows-from (length l') m' 1 its) (nlx x) =
-        ap (λ (rs : List Row). rowsr rs (nlx v)) (j .rows-are)
-        ∙ ap (rowsr (j .first ∷ j .others)) (inline-nlx v (g .ended) ∙ ap (λ (v : List ℕ). 10 ∷ v) z)
-        ∙ more-rows (item (length l) (place m (suc k)) lr) (j .first) (j .others) (nlx x)
-        ∙ ap (λ (rs : List Row). rowsr (item (length l) (place m (suc k)) lr ∷ rs) (nlx x)) (sym (j .rows-are)) in
+      ap (λ (rs : List Row). rowsr rs (nlx v)) (j .rows-are)
+      ∙ ap (rowsr (j .first ∷ j .others)) (inline-nlx v (g .ended) ∙ ap (λ (v : List ℕ). 10 ∷ v) z)
+      ∙ more-rows (item (length l) (place m (suc k)) lr) (j .first) (j .others) (nlx x)
+      ∙ ap (λ (rs : List Row). rowsr (item (length l) (place m (suc k)) lr ∷ rs) (nlx x)) (sym (j .rows-are)) in
       record {
         does = λ h.
-          let hw : Low w = subst Low (sym y) h in
-          let hv : Low v = low-nlx v (low-rows (rows-from (length l') m' 1 its) (nlx v) hw) in
-          let hx : Low x = low-nlx x (low-rows (item (length l) (place m (suc k)) lr ∷ rows-from (length l') m' 1 its) (nlx x) h) in
-          past-list l (place m (suc k)) (place m (suc (suc k))) x b v w _ (i .0) n' (li-in m k l x b s hx e ∙ g .eq hv ∙ i .1 hv) y (j .does hw);
-        ended = subst Ended y (j .ended) }
+            let hw : Low w = subst Low (sym y) h in
+            let hv : Low v = low-nlx v (low-rows (rows-from (length l') m' 1 its) (nlx v) hw) in
+            let hx : Low x = low-nlx x (low-rows (item (length l) (place m (suc k)) lr ∷ rows-from (length l') m' 1 its) (nlx x) h) in
+            past-list l (place m (suc k)) (place m (suc (suc k))) x b v w _ (i .0) n' (li-in m k l x b s hx e ∙ g .eq hv ∙ i .1 hv) y (j .does hw);
+        ended = subst Ended y (j .ended);
+      }
 
 -- NL? after an item, and what came before it
 then-nl : {s r r' r'' : List ℕ} (l : List ℕ) (p p' : ℕ) (x : List ℕ) (b : Bool) (v : List ℕ) → NL r r' → r' ≡ 60 ∷ r'' → Did s r l p p' x b v → Did s r' l p p' x b v
@@ -236,7 +239,7 @@ record ItemsDone (s r l : List ℕ) (p : ℕ) (x : List ℕ) (b : Bool) (rs : Li
 
 -- an item that reached x', and the items after it
 items-after : {s s' r : List ℕ} (l : List ℕ) (p p₁ : ℕ) (x : List ℕ) (b : Bool) (v v⁺ : List ℕ) (rs : List Row) → Ended v → rowsr rs (10 ∷ v) ≡ v⁺ → Low v⁺
-  → ((x : List ℕ) (b : Bool) → begins 32 x ≡ false → ItemsDone s' r l p₁ x b rs) → Did s s' l p p₁ x b v → (p' : ℕ) × Did s r l p p' x b v⁺
+    → ((x : List ℕ) (b : Bool) → begins 32 x ≡ false → ItemsDone s' r l p₁ x b rs) → Did s s' l p p₁ x b v → (p' : ℕ) × Did s r l p p' x b v⁺
 items-after l p p₁ x b v v⁺ rs g z h ih (stopped k) = never-stopped (low-rows rs (10 ∷ v) (subst Low (sym z) h)) k
 items-after l p p₁ x b v v⁺ rs g z h ih (reached x' b' k f a) =
     let y : rowsr rs (nlx x') ≡ v⁺ = ap (rowsr rs) (after-nlx x' v a g) ∙ z in
@@ -251,41 +254,43 @@ module _ (d : ℕ) (L : List ℕ → Mark → Items → List ℕ → Type 0) (li
 
   -- an item and those after it
   items-step : {s s₁ s₂ r : List ℕ} (it : Item) (its : List Item) → IsItem L s it s₁ → NL s₁ s₂ → (s' : List ℕ) → s₂ ≡ 60 ∷ s' → Many (ThenNL (IsItem L)) s₂ its r → (m : Mark) (k : ℕ) (l x : List ℕ) (b : Bool) → length l + suc d ≤ 8 → begins 32 x ≡ false
-    → ((it' : Item) (its' : List Item) → its ≡ it' ∷ its' → (x : List ℕ) (b : Bool) → begins 32 x ≡ false → ItemsDone s₂ r l (place m (suc (suc k))) x b (rows-from (length l) m (suc (suc k)) (items its)))
-    → ItemsDone s r l (place m (suc k)) x b (rows-from (length l) m (suc k) (items (it ∷ its)))
+      → ((it' : Item) (its' : List Item) → its ≡ it' ∷ its' → (x : List ℕ) (b : Bool) → begins 32 x ≡ false → ItemsDone s₂ r l (place m (suc (suc k))) x b (rows-from (length l) m (suc (suc k)) (items its)))
+      → ItemsDone s r l (place m (suc k)) x b (rows-from (length l) m (suc k) (items (it ∷ its)))
   items-step {s = s} it [] h n s' e (stop {s = r}) m k l x b c f ih =
       let g = item-out d L lists h m k l x b c f in
       let v = rowsr (own-row (length l) m (suc k) it ∷ sub-rows (length l) it) (nlx x) in
       let z : own-row (length l) m (suc k) it ∷ sub-rows (length l) it ≡ rows-from (length l) m (suc k) (items (it ∷ [])) = sym (rows-cons (length l) m (suc k) it [] ∙ last-rows (length l) m (suc (suc k)) (own-row (length l) m (suc k) it ∷ sub-rows (length l) it)) in
       record {
         does = subst (λ (rs : List Row). Low (rowsr rs (nlx x)) → (p' : ℕ) × Did s r l (place m (suc k)) p' x b (rowsr rs (nlx x))) z
-          (λ h. (place m (suc (suc k)), then-nl l (place m (suc k)) (place m (suc (suc k))) x b v n e (g .does h)));
+            (λ h. (place m (suc (suc k)), then-nl l (place m (suc k)) (place m (suc (suc k))) x b v n e (g .does h)));
         ended = subst (λ (rs : List Row). Ended (rowsr rs (nlx x))) z (g .ended);
         first = own-row (length l) m (suc k) it;
         others = sub-rows (length l) it;
-        rows-are = sym z }
+        rows-are = sym z;
+      }
   items-step {s = s} {r = r} it (it' ∷ its) h n s' e ms m k l x b c f ih =
       let g = item-out d L lists h m k l x b c f in
       let v = rowsr (own-row (length l) m (suc k) it ∷ sub-rows (length l) it) (nlx x) in
       let rs = rows-from (length l) m (suc (suc k)) (items (it' ∷ its)) in
       let i = ih it' its refl (10 ∷ v) false (start-space v) in
       let z : rowsr rs (10 ∷ v) ≡ rowsr (rows-from (length l) m (suc k) (items (it ∷ it' ∷ its))) (nlx x) =
-        ap (λ (rs : List Row). rowsr rs (10 ∷ v)) (i .rows-are)
-        ∙ sym (rowsr-append (own-row (length l) m (suc k) it) (sub-rows (length l) it) (i .first) (i .others) (nlx x))
-        ∙ ap (λ (rs : List Row). rowsr ((own-row (length l) m (suc k) it ∷ sub-rows (length l) it) ++ rs) (nlx x)) (sym (i .rows-are))
-        ∙ ap (λ (rs : List Row). rowsr rs (nlx x)) (sym (rows-cons (length l) m (suc k) it (it' ∷ its))) in
+      ap (λ (rs : List Row). rowsr rs (10 ∷ v)) (i .rows-are)
+      ∙ sym (rowsr-append (own-row (length l) m (suc k) it) (sub-rows (length l) it) (i .first) (i .others) (nlx x))
+      ∙ ap (λ (rs : List Row). rowsr ((own-row (length l) m (suc k) it ∷ sub-rows (length l) it) ++ rs) (nlx x)) (sym (i .rows-are))
+      ∙ ap (λ (rs : List Row). rowsr rs (nlx x)) (sym (rows-cons (length l) m (suc k) it (it' ∷ its))) in
       record {
         does = λ j.
-          let hv : Low v = low-tail 10 v (low-rows rs (10 ∷ v) (subst Low (sym z) j)) in
-          items-after l (place m (suc k)) (place m (suc (suc k))) x b v _ rs (g .ended) z j (λ x b f. ih it' its refl x b f)
-          (then-nl l (place m (suc k)) (place m (suc (suc k))) x b v n e (g .does hv));
+            let hv : Low v = low-tail 10 v (low-rows rs (10 ∷ v) (subst Low (sym z) j)) in
+            items-after l (place m (suc k)) (place m (suc (suc k))) x b v _ rs (g .ended) z j (λ x b f. ih it' its refl x b f)
+            (then-nl l (place m (suc k)) (place m (suc (suc k))) x b v n e (g .does hv));
         ended = subst Ended (ap (rowsr rs) (start-nlx v) ∙ z) (i .ended);
         first = own-row (length l) m (suc k) it;
         others = sub-rows (length l) it ++ rows-from (length l) m (suc (suc k)) (items (it' ∷ its));
-        rows-are = rows-cons (length l) m (suc k) it (it' ∷ its) }
+        rows-are = rows-cons (length l) m (suc k) it (it' ∷ its);
+      }
 
   items-out : {s r : List ℕ} {xs : List Item} → Many (ThenNL (IsItem L)) s xs r → (r' : List ℕ) → r ≡ 60 ∷ r' → (it : Item) (its : List Item) → xs ≡ it ∷ its → (m : Mark) (k : ℕ) (l x : List ℕ) (b : Bool) → length l + suc d ≤ 8 → begins 32 x ≡ false
-    → ItemsDone s r l (place m (suc k)) x b (rows-from (length l) m (suc k) (items xs))
+      → ItemsDone s r l (place m (suc k)) x b (rows-from (length l) m (suc k) (items xs))
   items-out stop r' e it its z m k l x b c f = let q : _≡_ {A = ℕ} 0 1 = cc in absurd (omega arith)
   items-out (more {x = y} {xs = ys} (G.then h n) ms) r' e it its z m k l x b c f =
       let t = items-start ms r' e in
@@ -336,15 +341,16 @@ list-out d L lists s _ its r (G.is-list {s = s₀} {s₁ = s₁} {it = it} {its 
     let a = opens-at m s₀ in
     record {
       does = λ h.
-        let h' : Low (nlx x) = low-rows rs (nlx x) h in
-        let j = i .does (subst Low (sym z) h) in
-        past-items m l x b (place m 1) (j .0) (nlx x) (g .0) _ _ (i .ended) z (open-list m l x b s₀ (low-nlx x h') (omega arith) e ∙ g .1 h') (j .1);
+          let h' : Low (nlx x) = low-rows rs (nlx x) h in
+          let j = i .does (subst Low (sym z) h) in
+          past-items m l x b (place m 1) (j .0) (nlx x) (g .0) _ _ (i .ended) z (open-list m l x b s₀ (low-nlx x h') (omega arith) e ∙ g .1 h') (j .1);
       ended = subst Ended z (i .ended);
       first = i .first;
       others = i .others;
       rows-are = i .rows-are;
       tagged-at = a .0;
-      at-a-tag = a .1 }
+      at-a-tag = a .1;
+    }
 
 pub lists-out : (d : ℕ) → ListsOut d (IsList d)
 lists-out zero s m its r h = absurd h

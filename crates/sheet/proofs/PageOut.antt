@@ -1,29 +1,26 @@
 -- Converting a sheet's page writes its written form; one byte 10 or two follow it.
 -- Assumes nothing.
-use Prim.Native.Nat.{ℕ, zero, suc, _+_, _≤_, _<_, min}
+use Prim.Native.Nat.{ℕ, _≤_, min}
 use native.Mathlib.Omega.{arith}
 use mathlib.Core.Path.{_≡_, refl, sym, _∙_, ap, subst}
 use mathlib.Core.Bool.{Bool, true, false, not, _&&_, cond}
 use mathlib.Core.Logic.{_⊎_, inl, inr}
-use mathlib.Core.Option.{Option, none, some}
-use mathlib.Core.List.{List, [], _∷_, _++_, map, reverse, reverseAux, reverseAux-append, append-nil, append-assoc, reverse-reverse}
-use borrow.Author.Tests.{not-true}
-use lib.ListN.{length}
+use mathlib.Core.Option.{Option, some}
+use mathlib.Core.List.{List, [], _∷_, _++_, reverse, reverseAux, reverseAux-append, append-nil}
 use Rattle.text.specs.Words.{str, repeat, is-empty, drop-while, index}
-use Rattle.text.specs.Chars.{is-space}
 use Rattle.text.specs.Utf8.{size}
 use Rattle.html.specs.State.{State, new, push-str, line-start, block}
 use Rattle.html.specs.Page.{words, turn, loop}
 use Rattle.sheet.specs.Tree.{Run, Mark, Items, Block, heading, para, list}
 use Rattle.sheet.specs.Grammar as G
-use Rattle.sheet.specs.Grammar.{NL, Many, stop, more, Line, ThenNL, IsList, IsBlock, is-heading, is-para, IsPage}
-use Rattle.sheet.specs.Written.{written-runs, Row, rows-from, rows, written-row, joined, written-block, written}
+use Rattle.sheet.specs.Grammar.{NL, Many, stop, more, ThenNL, IsBlock, is-heading, is-para, IsPage}
+use Rattle.sheet.specs.Written.{written-runs, rows-from, rows, joined, written-block, written}
 use Rattle.sheet.proofs.Turns.{Low, low-tail, low-front, loop-turn, loop-stop}
 use Rattle.sheet.proofs.Tags.{st, loop-p, loop-p/, loop-h, loop-h/}
 use Rattle.sheet.proofs.TextOut.{begins, inline, line-start-is}
-use Rattle.sheet.proofs.RunOut.{Tail, tag, nl-tag, nl-words, nl-loop}
+use Rattle.sheet.proofs.RunOut.{tag, nl-words, nl-loop}
 use Rattle.sheet.proofs.LineEnd.{Ended, LineDone, line-done, nlx, block-ended}
-use Rattle.sheet.proofs.ListOut.{Stopped, decide-low, never-stopped, rowsr, rowsr-joined, row-eq, leave, Left, left, stopped, ListDone, lists-out}
+use Rattle.sheet.proofs.ListOut.{Stopped, decide-low, never-stopped, rowsr, rowsr-joined, row-eq, Left, left, stopped, lists-out}
 
 -- what stands before a block
 abbrev pub gap : List ℕ → List ℕ
@@ -84,19 +81,19 @@ list-rows m its w = ap (rowsr (rows-from 0 m 1 its)) (gap-nlx w) ∙ rowsr-joine
 
 -- a line in its tags: p is what the opening tag writes
 lined : {s s' r r' : List ℕ} (p w v v' : List ℕ) {rs : List Run} → LineDone [] s' rs r' (reverseAux p (gap w)) → reverseAux (written-runs rs) (reverseAux p (gap w)) ≡ v → v ≡ v'
-  → (Low (gap w) → loop 0 s (st [] (gap w) false) ≡ loop 0 s' (st [] (reverseAux p (gap w)) false))
-  → (Low v → loop 0 r' (st [] v false) ≡ loop 0 r (block (st [] v false)))
-  → Low v' → Left s r [] (gap w) false v'
+    → (Low (gap w) → loop 0 s (st [] (gap w) false) ≡ loop 0 s' (st [] (reverseAux p (gap w)) false))
+    → (Low v → loop 0 r' (st [] v false) ≡ loop 0 r (block (st [] v false)))
+    → Low v' → Left s r [] (gap w) false v'
 lined {r = r} {r' = r'} p w v v' {rs} d e z f g h =
     let hv : Low v = subst Low (sym z) h in
     let hd : Low (reverseAux (written-runs rs) (reverseAux p (gap w))) = subst Low (sym e) hv in
     let dv : Ended v = subst Ended e (d .ended) in
     left (f (low-front p (gap w) (low-front (written-runs rs) (reverseAux p (gap w)) hd))
-      ∙ d .eq hd
-      ∙ ap (λ (v : List ℕ). loop 0 r' (st [] v false)) e
-      ∙ g hv
-      ∙ ap (loop 0 r) (block-ended [] v false dv)
-      ∙ ap (λ (v : List ℕ). loop 0 r (st [] (10 ∷ 10 ∷ v) false)) z)
+    ∙ d .eq hd
+    ∙ ap (λ (v : List ℕ). loop 0 r' (st [] v false)) e
+    ∙ g hv
+    ∙ ap (loop 0 r) (block-ended [] v false dv)
+    ∙ ap (λ (v : List ℕ). loop 0 r (st [] (10 ∷ 10 ∷ v) false)) z)
 
 left-as : {s r : List ℕ} (l x : List ℕ) (b : Bool) (v v' : List ℕ) → v ≡ v' → Left s r l x b v → Left s r l x b v'
 left-as {s} {r} l x b v v' e = subst (Left s r l x b) e
@@ -106,23 +103,25 @@ block-out (is-para {s = s} {r = r} {l = l} ln) w =
     let d = line-done [] ln (tag (str "/p>" ++ r)) (gap w) in
     record {
       does =
-        lined [] w (reverseAux (written-runs l) (gap w)) _ d refl (para-row l (gap w))
-        (λ h. loop-p [] (gap w) false s h ∙ ap (loop 0 s) (block-gap w))
-        (λ h. loop-p/ [] _ false r h);
+          lined [] w (reverseAux (written-runs l) (gap w)) _ d refl (para-row l (gap w))
+          (λ h. loop-p [] (gap w) false s h ∙ ap (loop 0 s) (block-gap w))
+          (λ h. loop-p/ [] _ false r h);
       ended = subst Ended (para-row l (gap w)) (d .ended);
       tagged-at = str "p>" ++ s;
-      at-a-tag = refl }
+      at-a-tag = refl;
+    }
 block-out (is-heading {s = s} {r = r} {l = l} n lo hi ln) w =
     let p = repeat (min n 3) "#" ++ str " " in
     let d = line-done [] ln (tag _) (reverseAux p (gap w)) in
     record {
       does =
-        lined p w (reverseAux (written-runs l) (reverseAux p (gap w))) _ d refl (heading-row n l (gap w))
-        (λ h. loop-h [] (gap w) false s h n lo hi ∙ ap (λ (c : State). loop 0 s (push-str p c)) (block-gap w))
-        (λ h. loop-h/ [] _ false r h n lo hi);
+          lined p w (reverseAux (written-runs l) (reverseAux p (gap w))) _ d refl (heading-row n l (gap w))
+          (λ h. loop-h [] (gap w) false s h n lo hi ∙ ap (λ (c : State). loop 0 s (push-str p c)) (block-gap w))
+          (λ h. loop-h/ [] _ false r h n lo hi);
       ended = subst Ended (heading-row n l (gap w)) (d .ended);
       tagged-at = _;
-      at-a-tag = refl }
+      at-a-tag = refl;
+    }
 block-out {s = s} {r = r} (G.is-list {m = m} {its = its} h) w =
     let d = lists-out 8 s m its r h [] (gap w) false (omega arith) (gap-clean w) in
     let z = list-rows m its w in
@@ -130,7 +129,8 @@ block-out {s = s} {r = r} (G.is-list {m = m} {its = its} h) w =
       does = λ h. left-as [] (gap w) false _ _ z (d .does (subst Low (sym z) h));
       ended = subst Ended z (d .ended);
       tagged-at = d .tagged-at;
-      at-a-tag = d .at-a-tag }
+      at-a-tag = d .at-a-tag;
+    }
 
 -- the page
 

@@ -1,8 +1,8 @@
 -- A sheet's page is not much longer than its written form: each byte written stands for at most 41 of the page.
 -- Assumes nothing.
-use Prim.Native.Nat.{ℕ, zero, suc, _+_, _*_, _≤_, _<_, min}
+use Prim.Native.Nat.{ℕ, zero, suc, _+_, _*_, _≤_, min}
 use native.Mathlib.Omega.{arith}
-use mathlib.Core.Path.{_≡_, refl, sym, _∙_, ap, subst}
+use mathlib.Core.Path.{_≡_, _∙_, ap}
 use mathlib.Core.Bool.{Bool, true, false, _&&_, cond}
 use mathlib.Core.List.{List, [], _∷_, _++_, map}
 use lib.ListN.{length}
@@ -11,7 +11,7 @@ use Rattle.text.specs.Chars.{is-letter}
 use Rattle.text.specs.Utf8.{utf8, size}
 use Rattle.text.proofs.Laws.{utf8-size}
 use Rattle.html.specs.State.{special}
-use Rattle.sheet.specs.Tree.{Kind, plain, strong, em, both, code, Run, run, Mark, ul, ol, Items, Item, alone, with, items, Block, heading, para, list}
+use Rattle.sheet.specs.Tree.{Kind, plain, strong, em, both, code, Run, run, Mark, ul, ol, Items, Item, items, Block, heading, para, list}
 use Rattle.sheet.specs.Grammar as G
 use Rattle.sheet.specs.Grammar.{NL, Char, Many, stop, more, Text, IsRun, is-run, Line, ThenNL, IsItem, is-alone, is-with, ListOf, IsList, IsBlock, is-heading, is-para, IsPage, concat, first-is, apart, first-letter, last-no-blank, neat, before, after, opens, closes, opens-h, closes-h}
 use Rattle.sheet.specs.Written.{escaped, sign, written-run, written-runs, Row, item, place, lead, rows-from, rows, written-row, joined, written-block, written}
@@ -165,7 +165,8 @@ module _ (L : List ℕ → Mark → Items → List ℕ → Type 0) (lists : List
       let j = lists s₂ k its s₃ q (suc d) in
       record {
         most = omega (arith, li-size s, li/-size r, g .most, g .full, row-size d (place m n) l, nl-size a, nl-size b, j .most);
-        full = omega (arith, g .full, row-size d (place m n) l) }
+        full = omega (arith, g .full, row-size d (place m n) l);
+      }
 
   items-size : {s r : List ℕ} {xs : List Item} → Many (ThenNL (IsItem L)) s xs r → (d : ℕ) (m : Mark) (n : ℕ) → size s ≤ size r + 30 * weight (rows-from d m n (items xs))
   items-size stop d m n = omega arith
@@ -184,7 +185,8 @@ module _ (L : List ℕ → Mark → Items → List ℕ → Type 0) (lists : List
   list-size s _ _ r (G.is-list {s = s₀} {it = it} {its = xs} m n q) d =
       record {
         most = omega (arith, opens-size m s₀, nl-size n, items-size q d m 1, closes-size m r);
-        full = items-full q d m 1 }
+        full = items-full q d m 1;
+      }
 
 lists-size : (d : ℕ) → ListsSize (IsList d)
 lists-size zero s m its r h = absurd h

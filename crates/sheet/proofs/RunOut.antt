@@ -2,7 +2,7 @@
 -- Assumes nothing.
 use Prim.Native.Nat.{ℕ}
 use mathlib.Core.Path.{_≡_, refl, sym, _∙_, ap, subst}
-use mathlib.Core.Bool.{Bool, true, false, not, cond}
+use mathlib.Core.Bool.{Bool, true, false, not}
 use mathlib.Core.List.{List, [], _∷_, _++_, reverseAux, reverseAux-append}
 use Prim.Native.String.{String}
 use lib.Dec.{eqb}
@@ -146,13 +146,13 @@ module _ (l o : List ℕ) (b : Bool) (v u t s : List ℕ) (h : Ready l (st l o b
   run-both =
       run-in l (str "***") (str "<strong><em>") (str "/em></strong>") (st l o b) v
       (λ s k.
-        loop-strong l o b (str "<em>" ++ s) (low-ready l o b v h (low-front (str "***") v k))
-        ∙ ap (loop 0 (str "<em>" ++ s)) (open-marks l v "**" (st l o b) h refl)
-        ∙ loop-em l _ _ s (low-hold l (42 ∷ 42 ∷ v) (low-tail 42 (42 ∷ 42 ∷ v) k))
-        ∙ ap (loop 0 s) (open-marks l (42 ∷ 42 ∷ v) "*" (hold l (42 ∷ 42 ∷ v)) (hold-spaced l (42 ∷ 42 ∷ v)) refl))
+      loop-strong l o b (str "<em>" ++ s) (low-ready l o b v h (low-front (str "***") v k))
+      ∙ ap (loop 0 (str "<em>" ++ s)) (open-marks l v "**" (st l o b) h refl)
+      ∙ loop-em l _ _ s (low-hold l (42 ∷ 42 ∷ v) (low-tail 42 (42 ∷ 42 ∷ v) k))
+      ∙ ap (loop 0 s) (open-marks l (42 ∷ 42 ∷ v) "*" (hold l (42 ∷ 42 ∷ v)) (hold-spaced l (42 ∷ 42 ∷ v)) refl))
       (λ v s d k.
-        loop-em/ l _ _ (str "</strong>" ++ s) (low-hold l v (low-front (str "***") v k))
-        ∙ ap (loop 0 (str "</strong>" ++ s)) (close-marks l v "*" d refl)
-        ∙ loop-strong/ l _ _ s (low-hold l (42 ∷ v) (low-front (str "**") (42 ∷ v) k))
-        ∙ ap (loop 0 s) (close-marks l (42 ∷ v) "**" refl refl))
+      loop-em/ l _ _ (str "</strong>" ++ s) (low-hold l v (low-front (str "***") v k))
+      ∙ ap (loop 0 (str "</strong>" ++ s)) (close-marks l v "*" d refl)
+      ∙ loop-strong/ l _ _ s (low-hold l (42 ∷ v) (low-front (str "**") (42 ∷ v) k))
+      ∙ ap (loop 0 s) (close-marks l (42 ∷ v) "**" refl refl))
       refl refl refl u t s r w f

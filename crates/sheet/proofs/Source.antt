@@ -1,8 +1,8 @@
 -- What a sheet's text is in the page: the references in it, its single spaces, and the letter that a line starts with.
 -- Assumes nothing.
-use Prim.Native.Nat.{ℕ, zero, suc, _+_, _≤_}
+use Prim.Native.Nat.{ℕ, _≤_}
 use native.Mathlib.Omega.{arith}
-use mathlib.Core.Path.{_≡_, refl, sym, _∙_, ap, subst}
+use mathlib.Core.Path.{_≡_, refl, sym, _∙_, ap}
 use mathlib.Core.Bool.{Bool, true, false, not, _&&_, _||_, cond, or-true, and-false}
 use mathlib.Core.Logic.{_⊎_, inl, inr, ⊎-elim}
 use mathlib.Core.List.{List, [], _∷_, _++_, append-assoc}
@@ -15,7 +15,7 @@ use Rattle.reference.specs.Unescape.{names, named, reference, unescaped, unesca
 use Rattle.html.specs.State.{special}
 use Rattle.sheet.specs.Tree.{Kind, plain, strong, em, both, code}
 use Rattle.sheet.specs.Grammar as G
-use Rattle.sheet.specs.Grammar.{Char, Many, stop, more, Text, shown, none-of, singles, first-is, last-is, any, no-blank, fits, concat}
+use Rattle.sheet.specs.Grammar.{Char, Many, stop, more, Text, shown, none-of, singles, first-is, last-is, no-blank, fits, concat}
 use Rattle.sheet.specs.Sound.{and-inv}
 use Rattle.sheet.proofs.TextOut.{singly}
 use Rattle.sheet.proofs.RunOut.{Raw}
@@ -62,10 +62,12 @@ source-by {r = r} p q h z =
         no-tag = h .untagged (z .raw) (z .source .no-tag);
         means = h .replaced (z .raw) ∙ ap (λ (t : List ℕ). q ++ t) (z .source .means);
         means-nl =
-          ap (unescape 0) (append-assoc p (z .raw) (10 ∷ []))
-          ∙ h .replaced (z .raw ++ (10 ∷ []))
-          ∙ ap (λ (t : List ℕ). q ++ t) (z .source .means-nl)
-          ∙ sym (append-assoc q _ (10 ∷ [])) } }
+            ap (unescape 0) (append-assoc p (z .raw) (10 ∷ []))
+            ∙ h .replaced (z .raw ++ (10 ∷ []))
+            ∙ ap (λ (t : List ℕ). q ++ t) (z .source .means-nl)
+            ∙ sym (append-assoc q _ (10 ∷ []));
+      };
+    }
 
 stands-lt : Stands (str "&lt;") (str "<")
 unfolding none-of unescape unescaped reference named names index size utf8

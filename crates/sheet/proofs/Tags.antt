@@ -3,16 +3,14 @@
 use Prim.Native.Nat.{ℕ, zero, suc, _+_, _-_, _≤_, _<_, min}
 use native.Mathlib.Omega.{arith}
 use mathlib.Core.Path.{_≡_, refl, _∙_, ap}
-use mathlib.Core.Bool.{Bool, true, false, cond}
-use mathlib.Core.Option.{Option, none, some}
-use mathlib.Core.List.{List, [], _∷_, _++_, tail}
+use mathlib.Core.Bool.{Bool, true, false}
+use mathlib.Core.Option.{none}
+use mathlib.Core.List.{List, _∷_, _++_, tail}
 use borrow.Author.Tests.{lt-leb}
-use lib.Dec.{leb}
 use lib.ListN.{length}
 use Rattle.text.specs.Words.{str, repeat, index, take-while, drop-while, trim-end-matches}
 use Rattle.text.specs.Chars.{is-space}
 use Rattle.reference.specs.Unescape.{unescape}
-use Rattle.html.specs.State as S
 use Rattle.html.specs.State.{State, push-str, block, newline, marks, list-changed, item, text, put-all, tags, tag-of, tag}
 use Rattle.html.specs.Page.{Turn, read, listed, shown, element, inside, words, a-tag, markup, turn, on-turn, loop}
 use Rattle.sheet.specs.Grammar.{opens-h, closes-h}

@@ -1,16 +1,15 @@
 -- Converting a run's text writes it escaped; its last space is held back.
 -- Assumes nothing.
-use Prim.Native.Nat.{ℕ, zero, suc}
+use Prim.Native.Nat.{ℕ}
 use native.Mathlib.Omega.{arith}
 use mathlib.Core.Path.{_≡_, refl, sym, _∙_, ap, subst}
-use mathlib.Core.Bool.{Bool, true, false, not, _&&_, _||_, cond, and-true, and-false, or-false}
-use mathlib.Core.Option.{Option, none, some}
+use mathlib.Core.Bool.{Bool, true, false, not, _&&_, cond, and-true, and-false, or-false}
 use mathlib.Core.List.{List, [], _∷_, _++_, reverseAux, tail, reverseAux-append}
 use borrow.Author.Tests.{not-true, eqb-true}
 use lib.Dec.{eqb}
-use Rattle.text.specs.Words.{str, is-empty, starts}
+use Rattle.text.specs.Words.{is-empty}
 use Rattle.text.specs.Chars.{is-space}
-use Rattle.html.specs.State.{State, with-out, push-str, line-start, spaced, special, ends-with-digit, escape, put, next, put-all}
+use Rattle.html.specs.State.{State, with-out, line-start, spaced, special, ends-with-digit, escape, put, next, put-all}
 use Rattle.sheet.specs.Grammar.{last-is, no-blank}
 use Rattle.sheet.specs.Written.{escaped}
 use Rattle.sheet.specs.Sound.{and-inv}
@@ -155,7 +154,7 @@ module _ (l : List ℕ) where
       ∙ ap hold (escaped-blank t v)
 
   put-shown : (f : Bool) (x : ℕ) (t v : List ℕ) → Puts t false (reverseAux (shielded x) v) → inline v ≡ true → is-space x ≡ false → (f && ends-with-digit v) ≡ false → singly false t ≡ true
-    → put-all f (x ∷ t) (hold v) ≡ hold (reverseAux (escaped (x ∷ t)) v)
+      → put-all f (x ∷ t) (hold v) ≡ hold (reverseAux (escaped (x ∷ t)) v)
   unfolding put-all
   put-shown f x t v ih i s d w =
       ap (λ (n : Bool × State). put-all (n .0) t (n .1)) (next-shown f x v i s d)

@@ -3,14 +3,14 @@
 use Prim.Native.Nat.{ℕ, zero, suc, _≤_, min}
 use native.Mathlib.Omega.{arith}
 use mathlib.Core.Path.{_≡_, refl, sym, _∙_, ap, subst}
-use mathlib.Core.Bool.{Bool, true, false, _&&_, cond}
+use mathlib.Core.Bool.{true, false, _&&_}
 use mathlib.Core.Logic.{_⊎_, inl, inr}
 use mathlib.Core.List.{List, [], _∷_, _++_, map, reverse, append-assoc, reverse-append, reverse-reverse}
 use Rattle.text.specs.Words.{str, repeat, drop-while, trim-end-matches}
 use Rattle.text.specs.Chars.{is-space, is-letter}
 use Rattle.text.specs.Decimal.{digits}
 use Rattle.text.specs.Trim.{trim}
-use Rattle.sheet.specs.Tree.{Kind, plain, strong, em, both, code, Run, run, Mark, ul, ol, Items, Item, alone, with, items, Block, heading, para, list}
+use Rattle.sheet.specs.Tree.{plain, strong, em, both, code, Run, run, Mark, ul, ol, Items, Item, alone, with, items, Block, list}
 use Rattle.sheet.specs.Grammar as G
 use Rattle.sheet.specs.Grammar.{Many, stop, more, IsRun, is-run, Line, ThenNL, IsList, IsBlock, is-heading, is-para, first-is, apart, first-letter, last-no-blank, neat}
 use Rattle.sheet.specs.Written.{escaped, written-run, written-runs, Row, item, place, rows-from, rows, written-row, joined, written-block, written}

@@ -1,18 +1,18 @@
 -- The converter's loop, turn by turn, while the output is below its limit of 16,000 bytes.
 -- Assumes nothing.
-use Prim.Native.Nat.{ℕ, zero, suc, _+_, _-_, _≤_, _<_}
+use Prim.Native.Nat.{ℕ, suc, _+_, _-_, _≤_, _<_}
 use native.Mathlib.Omega.{arith}
 use native.Mathlib.Nat.{suc-add, zero-add}
-use mathlib.Core.Path.{_≡_, refl, sym, _∙_, ap, subst}
-use mathlib.Core.Bool.{Bool, true, false, not, _&&_, cond, and-true}
+use mathlib.Core.Path.{_≡_, refl, sym, _∙_, ap}
+use mathlib.Core.Bool.{Bool, true, false, not, cond}
 use mathlib.Core.Option.{Option, none, some}
 use mathlib.Core.List.{List, [], _∷_, _++_, reverseAux}
 use borrow.Author.Tests.{not-true, lt-ltb, le-ltb}
-use lib.Dec.{eqb, ltb}
+use lib.Dec.{eqb}
 use lib.ListN.{length, take, drop}
 use lib.Seq.{take-append-seam, drop-append-seam}
-use Rattle.text.specs.Words.{_>>=_, case, str, is, starts, starts-with, index, find}
-use Rattle.text.specs.Utf8.{utf8, size}
+use Rattle.text.specs.Words.{case, is, starts, index, find}
+use Rattle.text.specs.Utf8.{size}
 use Rattle.text.specs.Trim.{trim}
 use Rattle.reference.specs.Unescape.{unescape}
 use Rattle.html.specs.State.{State, text, put-all}
