@@ -1,19 +1,21 @@
 -- The converter's half of demand 3: it makes of a sheet's page its written form, limits included.
 -- Assumes nothing.
-use Prim.Native.Nat.{ℕ, _+_, _-_, _≤_, _<_}
+use Prim.Native.Nat.{ℕ, _+_, _-_, _*_, _≤_, _<_}
 use native.Mathlib.Omega.{arith}
 use mathlib.Core.Path.{_≡_, refl, sym, _∙_, ap, subst}
 use mathlib.Core.Logic.{_⊎_}
 use mathlib.Core.Option.{Option, some}
 use mathlib.Core.List.{List, [], _∷_, reverse, reverseAux}
-use borrow.Author.Tests.{le-leb}
+use borrow.Author.Tests.{le-leb, le-ltb}
 use lib.ListN.{length, take}
 use lib.Seq.{take-all}
 use Rattle.text.specs.Words.{_>>=_}
-use Rattle.text.specs.Utf8.{utf8, size}
+use Rattle.text.specs.Utf8.{utf8, size, encode, decode}
 use Rattle.text.specs.Cut.{cut}
+use Rattle.text.specs.Outcome.{wrote}
 use Rattle.html.specs.State.{State, new}
 use Rattle.html.specs.Page.{loop, finish, html-to-markdown}
+use Rattle.html.specs.Calls.{converted, with-buffers, html-to-markdown-call}
 use Rattle.sheet.specs.Tree.{Block}
 use Rattle.sheet.specs.Grammar as G
 use Rattle.sheet.specs.Grammar.{IsPage}
@@ -53,3 +55,10 @@ sheet-converts {s} {t} p h k =
     ap (λ (s : List ℕ). loop 0 s new >>= λ (c : State). some (finish c)) (cut-all 1048576 s (omega (arith, page-size p)))
     ∙ ap (λ (o : Option State). o >>= λ (c : State). some (finish c)) (e .is)
     ∙ ap some (finished p (e .state) (e .trails) k)
+
+-- the call, on the page's bytes and with buffers that are long enough
+pub sheet-call : {s : List ℕ} {t : List Block} (page : List ℕ) (work result : ℕ) → decode page ≡ some s → IsPage s t → size (written t) < 16000 → length (written t) ≤ 8000
+    → 2 * size s + 16384 ≤ work → 32000 ≤ result → html-to-markdown-call page work result ≡ wrote (encode (written t))
+unfolding html-to-markdown-call with-buffers converted
+sheet-call {s} {t} page work result d p h k a b =
+    rw (d, cut-all 1048576 s (omega (arith, page-size p)), le-ltb work (2 * size s + 16384) a, le-ltb result 32000 b, sheet-converts p h k)
