@@ -1,0 +1,12 @@
+pub mod Turns
+pub mod Tags
+pub mod TextOut
+pub mod RunOut
+pub mod Source
+pub mod LineOut
+pub mod LineEnd
+pub mod ListOut
+pub mod PageOut
+pub mod Trimmed
+pub mod PageSize
+pub mod Converts
