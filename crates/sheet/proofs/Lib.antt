@@ -1,3 +1,4 @@
 pub mod Facts
 pub mod ReadBack
 pub mod Solid
+pub mod Fronts
