@@ -2,3 +2,4 @@ pub mod Facts
 pub mod ReadBack
 pub mod Solid
 pub mod Fronts
+pub mod PageRead
