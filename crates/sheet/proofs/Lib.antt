@@ -3,3 +3,4 @@ pub mod ReadBack
 pub mod Solid
 pub mod Fronts
 pub mod PageRead
+pub mod EachLine
