@@ -4,3 +4,5 @@ pub mod Solid
 pub mod Fronts
 pub mod PageRead
 pub mod EachLine
+pub mod WrittenLines
+pub mod ReadAll
