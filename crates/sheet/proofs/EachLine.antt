@@ -88,7 +88,7 @@ module _ (Q : List ℕ → Type 0) (tail : (c : ℕ) (s : List ℕ) → Q (c ∷
 
     module _ (L : List ℕ → Mark → Items → List ℕ → Type 0) (k : ℕ) (say : ListsSay L k) (keep : ListsKept L) where
       item-rows : {s r : List ℕ} {it : Item} → IsItem L s it r → Q s → (d : ℕ) (m : Mark) (n : ℕ) (its : Items) → d + suc k ≤ 8
-        → Entries P (rows-from d m (suc n) its) → Entries P (rows-from d m n (cons it its))
+          → Entries P (rows-from d m (suc n) its) → Entries P (rows-from d m n (cons it its))
       unfolding rows-from
       item-rows (is-alone {s} {r} {l} ln) q d m n its h e = one {d = d} (omega arith) (of-line s l (str "</li>" ++ r) ln (past (str "<li>") s q)) e
       item-rows (is-with {s} {s₁} {s₂} {s₃} {l = l} {m = mk} {its = sub} ln a i b) q d m n its h e =
@@ -97,7 +97,7 @@ module _ (Q : List ℕ → Type 0) (tail : (c : ℕ) (s : List ℕ) → Q (c ∷
           (entries-append (say s₂ mk sub s₃ i (nl-kept a (line-kept s l s₁ ln q₁)) (suc d) 1 (omega arith)) e)
 
       all-rows : {s r : List ℕ} {xs : List Item} → Many (ThenNL (IsItem L)) s xs r → Q s → (d : ℕ) (m : Mark) (n : ℕ) → d + suc k ≤ 8
-        → Entries P (rows-from d m n (items xs))
+          → Entries P (rows-from d m n (items xs))
       unfolding rows-from
       all-rows stop q d m n h = none
       all-rows (more {xs = its} (G.then {s} {m = u} {x = it} i a) ms) q d m n h =

@@ -6,3 +6,6 @@ pub mod PageRead
 pub mod EachLine
 pub mod WrittenLines
 pub mod ReadAll
+pub mod Calm
+pub mod Places
+pub mod SheetReads

@@ -231,7 +231,8 @@ number-listed ds w n g =
       first = ap (λ (s : List ℕ). space-first (s ++ (46 ∷ 32 ∷ w))) (n .is-first) ∙ visible (n .first) (omega (arith, n .low)) (omega (arith, n .high));
       last = ap (λ (s : List ℕ). space-first (reverse s)) (sym (append-assoc ds (46 ∷ 32 ∷ []) w)) ∙ last-append (ds ++ (46 ∷ 32 ∷ [])) w g;
       filled = ap (λ (s : List ℕ). is-empty (s ++ (46 ∷ 32 ∷ w))) (n .is-first);
-      no-hash = ap (λ (s : List ℕ). starts "#" (s ++ (46 ∷ 32 ∷ w))) (n .is-first) ∙ no-hash-digit (n .first) (n .others ++ (46 ∷ 32 ∷ w)) (n .low) }
+      no-hash = ap (λ (s : List ℕ). starts "#" (s ++ (46 ∷ 32 ∷ w))) (n .is-first) ∙ no-hash-digit (n .first) (n .others ++ (46 ∷ 32 ∷ w)) (n .low);
+    }
 
 -- the place and `. `
 pub read-number : (b : List Block) (d : ℕ) (ds w : List ℕ) → all is-digit ds ≡ true → 1 ≤ length ds → length ds ≤ 9 → Good w

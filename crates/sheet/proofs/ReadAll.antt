@@ -67,17 +67,20 @@ read-block (a-heading {n} {l} lo g) h o ls =
     record {
       state = reader (Heading (min n 3) (map span l) ∷ o) [];
       eq = ap (λ (r : Reader). read-lines r ls) (read-heading o (min n 3) (written-runs l) (omega arith) (omega arith) (g .good) ∙ ap (λ (s : List Span). reader (Heading (min n 3) s ∷ o) []) (g .spans-are));
-      flushed = nothing (Heading (min n 3) (map span l) ∷ o) }
+      flushed = nothing (Heading (min n 3) (map span l) ∷ o);
+    }
 read-block (a-para {l} g) h o ls =
     record {
       state = reader o (written-runs l);
       eq = ap (λ (r : Reader). read-lines r ls) (read-para o (written-runs l) (g .good));
-      flushed = flush-para o (written-runs l) (front-empty (g .good .front)) ∙ ap (λ (s : List Span). Paragraph s ∷ o) (g .spans-are) }
+      flushed = flush-para o (written-runs l) (front-empty (g .good .front)) ∙ ap (λ (s : List Span). Paragraph s ∷ o) (g .spans-are);
+    }
 read-block (a-list {m = m} it its e) h o ls =
     record {
       state = reader (reverseAux (map block-of (rows-from 0 m 1 (items (it ∷ its)))) o) [];
       eq = read-entries e h o ls;
-      flushed = nothing (reverseAux (map block-of (rows-from 0 m 1 (items (it ∷ its)))) o) }
+      flushed = nothing (reverseAux (map block-of (rows-from 0 m 1 (items (it ∷ its)))) o);
+    }
 
 -- ---- a page
 start : (o : List B.Block) → flush (read-lines (reader o []) []) ≡ o

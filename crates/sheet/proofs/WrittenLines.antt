@@ -94,7 +94,8 @@ rowed (a-heading {n} {l} lo g) =
       first = head (min n 3) l;
       others = [];
       is = refl;
-      lined = one (line-append (repeat (min n 3) "#") (str " " ++ written-runs l) (all-repeat-hash inline refl (min n 3)) (line-append (str " ") (written-runs l) refl (runs-line g))) none }
+      lined = one (line-append (repeat (min n 3) "#") (str " " ++ written-runs l) (all-repeat-hash inline refl (min n 3)) (line-append (str " ") (written-runs l) refl (runs-line g))) none;
+    }
 rowed (a-para {l} g) = record { first = text l; others = []; is = refl; lined = one (runs-line g) none }
 rowed (a-list {m = m} (alone l) its e) =
     record { first = item 0 (place m 1) l; others = rows-from 0 m 2 (items its); is = refl; lined = entry-rows e }
