@@ -18,7 +18,7 @@ use Rattle.sheet.specs.Tree.{Kind, plain, strong, em, both, code, Run, r
 use Rattle.sheet.specs.Written.{escaped, sign, written-run, written-runs, Row, head, text, item, rows, lead, written-row, joined, written-block, written}
 use Rattle.sheet.specs.Sound.{and-inv}
 use Rattle.sheet.proofs.Facts.{ordinary}
-use Rattle.sheet.proofs.PageRead.{digits-all}
+use Rattle.sheet.proofs.AllChars.{decimal-all}
 
 -- no ! right after a <; p: a < stands before
 unfoldable calm : Bool → List ℕ → Bool
@@ -104,7 +104,7 @@ safe-digits (a ∷ s) e =
 
 safe-lead : (n : ℕ) → Safe (lead n)
 safe-lead zero = safe-mild (str "- ") refl
-safe-lead (suc n) = safe-append (decimal (suc n)) (str ". ") (safe-digits (decimal (suc n)) (digits-all (suc (suc n)) (suc n))) (safe-mild (str ". ") refl)
+safe-lead (suc n) = safe-append (decimal (suc n)) (str ". ") (safe-digits (decimal (suc n)) (decimal-all (suc n))) (safe-mild (str ". ") refl)
 
 safe-row : (r : Row) → Safe (written-row r)
 safe-row (head n l) = safe-append (repeat n "#") (32 ∷ written-runs l) (safe-hashes n) (safe-cons 32 (written-runs l) refl (safe-runs l))

@@ -1,4 +1,5 @@
 pub mod Facts
+pub mod AllChars
 pub mod ReadBack
 pub mod Solid
 pub mod Fronts

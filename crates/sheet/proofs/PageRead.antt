@@ -21,7 +21,7 @@ use Rattle.spans.specs.Spans.{spans}
 use Rattle.markdown.specs.Blocks.{Marked, marked, marker-at, list-marker, Reader, reader, flush, heading, paragraph, read-text, read-line}
 use Rattle.sheet.specs.Sound.{and-inv}
 use Rattle.sheet.proofs.Facts.{false-true, visible}
-use Rattle.sheet.proofs.Solid.{space-first, all-append}
+use Rattle.sheet.proofs.Solid.{space-first}
 use Rattle.sheet.proofs.Fronts.{solid-drop, trim-start-is, trim-id, Front, front-hash, front-bar, front-blank, front-empty, front-solid, front-marker, bulleted, no-rule, Good}
 
 -- ---- paragraphs
@@ -165,26 +165,6 @@ read-dash b d w g =
     ∙ ap (λ (d : ℕ). reader (Item d (str "•") (spans w) ∷ b) []) (half d)
 
 -- ---- decimal numbers
-digit-low : (n : ℕ) → n < 10 → is-digit (48 + n) ≡ true
-digit-low n h = within-is 48 57 (48 + n) (omega arith) (omega arith)
-
-pub digits-all : (k n : ℕ) → all is-digit (digits k n) ≡ true
-unfolding digits
-digits-all zero n = refl
-digits-all (suc k) n = go (ltb n 10) refl (digits-all k (n / 10))
-  where
-    go : (b : Bool) → ltb n 10 ≡ b → all is-digit (digits k (n / 10)) ≡ true → all is-digit (cond b ((48 + n) ∷ []) (digits k (n / 10) ++ ((48 + n % 10) ∷ []))) ≡ true
-    go true e h = rw (digit-low n (ltb-true n 10 e))
-    go false e h = all-append is-digit (digits k (n / 10)) ((48 + n % 10) ∷ []) h (rw (digit-low (n % 10) (omega arith)))
-
-pub digits-some : (k n : ℕ) → 1 ≤ length (digits (suc k) n)
-unfolding digits
-digits-some k n = go (ltb n 10)
-  where
-    go : (b : Bool) → 1 ≤ length (cond b ((48 + n) ∷ []) (digits k (n / 10) ++ ((48 + n % 10) ∷ [])))
-    go true = omega arith
-    go false = omega (arith, length-append (digits k (n / 10)) ((48 + n % 10) ∷ []))
-
 take-digits : (s t : List ℕ) → all is-digit s ≡ true → take-while is-digit (s ++ (46 ∷ t)) ≡ s
 unfolding take-while
 take-digits [] t e = refl

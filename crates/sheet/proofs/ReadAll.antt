@@ -13,8 +13,9 @@ use Rattle.spans.specs.Spans.{spans}
 use Rattle.markdown.specs.Blocks.{cleaned, lines, Reader, reader, flush, read-line, read-lines, blocks}
 use Rattle.sheet.specs.Tree.{Run, Item, items, Block}
 use Rattle.sheet.specs.Written.{span, written-runs, Row, head, text, item, rows-from, rows, written-row, written, marker, block-of, blocks-of}
+use Rattle.sheet.proofs.AllChars.{decimal-all, decimal-some}
 use Rattle.sheet.proofs.Fronts.{front-empty}
-use Rattle.sheet.proofs.PageRead.{digits-all, digits-some, read-para, read-blank, flush-para, read-heading, read-dash, read-number}
+use Rattle.sheet.proofs.PageRead.{read-para, read-blank, flush-para, read-heading, read-dash, read-number}
 use Rattle.sheet.proofs.EachLine.{Entries, Lines, a-heading, a-para, a-list, Each}
 use Rattle.sheet.proofs.EachLine as E
 use Rattle.sheet.proofs.WrittenLines.{GoodRuns, line-list, lines-written}
@@ -40,7 +41,7 @@ read-item b d zero l g h =
     read-dash b d (written-runs l) (g .good) ∙ ap (λ (s : List Span). reader (B.Item d (marker 0) s ∷ b) []) (g .spans-are)
 read-item b d (suc n) l g h =
     ap (λ (x : List ℕ). read-line (reader b []) (repeat d "  " ++ x)) (append-assoc (decimal (suc n)) (str ". ") (written-runs l))
-    ∙ read-number b d (decimal (suc n)) (written-runs l) (digits-all (suc (suc n)) (suc n)) (digits-some (suc n) (suc n)) h (g .good)
+    ∙ read-number b d (decimal (suc n)) (written-runs l) (decimal-all (suc n)) (decimal-some (suc n)) h (g .good)
     ∙ ap (λ (s : List Span). reader (B.Item d (marker (suc n)) s ∷ b) []) (g .spans-are)
 
 read-entries : {rs : List Row} → Entries GoodRuns rs → AllShort rs → (b : List B.Block) (ls : List (List ℕ))

@@ -18,29 +18,8 @@ use Rattle.sheet.specs.Grammar as G
 use Rattle.sheet.specs.Grammar.{shown, Char, Many, stop, more, concat, first-is, last-is, no-blank, first-letter, last-no-blank, neat, apart, IsRun, is-run, Line}
 use Rattle.sheet.specs.Written.{escaped, sign, written-run, written-runs}
 use Rattle.sheet.specs.Sound.{and-inv}
+use Rattle.sheet.proofs.AllChars.{all-append, all-weaker, Marks, all-run}
 use Rattle.sheet.proofs.Facts.{false-true, a-letter, letter-space, letter-special, no-space}
-
--- ---- a test of all characters
-pub all-append : (p : ℕ → Bool) (s t : List ℕ) → all p s ≡ true → all p t ≡ true → all p (s ++ t) ≡ true
-all-append p [] t e f = f
-all-append p (a ∷ s) t e f = let g = and-inv (p a) (all p s) e in rw (g .0) (all-append p s t (g .1) f)
-
--- a stronger test
-pub all-weaker : (p q : ℕ → Bool) → ((c : ℕ) → p c ≡ true → q c ≡ true) → (s : List ℕ) → all p s ≡ true → all q s ≡ true
-all-weaker p q h [] e = refl
-all-weaker p q h (a ∷ s) e = let g = and-inv (p a) (all p s) e in rw (h a (g .0)) (all-weaker p q h s (g .1))
-
--- what holds of `\` and of a text's characters holds of the text escaped
-pub all-escaped : (p : ℕ → Bool) → p 92 ≡ true → (t : List ℕ) → all p t ≡ true → all p (escaped t) ≡ true
-unfolding escaped
-all-escaped p b [] e = refl
-all-escaped p b (x ∷ t) e =
-    let g = and-inv (p x) (all p t) e in
-    all-append p (cond (special x) (92 ∷ x ∷ []) (x ∷ [])) (escaped t) (go (special x) (g .0)) (all-escaped p b t (g .1))
-  where
-    go : (s : Bool) → p x ≡ true → all p (cond s (92 ∷ x ∷ []) (x ∷ [])) ≡ true
-    go true e = rw (b, e)
-    go false e = rw e
 
 -- ---- a text has no space but 32
 abbrev pub inked : ℕ → Bool
@@ -79,26 +58,20 @@ inked-inline x e = go (eqb x 32) refl e
     go true f h = ap inline (eqb-true x 32 f)
     go false f h = ap not (no-space x 10 refl (not-true (is-space x) h))
 
--- what holds of the signs' characters holds of the signs
-all-sign : (p : ℕ → Bool) → p 42 ≡ true → p 96 ≡ true → (k : Kind) → all p (sign k) ≡ true
-all-sign p e f plain = refl
-all-sign p e f strong = rw e
-all-sign p e f em = rw e
-all-sign p e f both = rw e
-all-sign p e f code = rw f
+digit-inline : (c : ℕ) → is-digit c ≡ true → inline c ≡ true
+digit-inline c e = let f = within-true 48 57 c e in ap not (ne-eqb c 10 (λ e. omega arith))
 
--- what holds of the signs' characters, of `\` and of 32 and all that is no space holds of a written line
-pub all-runs : {s r : List ℕ} {rs : List Run} (p : ℕ → Bool) → p 42 ≡ true → p 96 ≡ true → p 92 ≡ true → ((c : ℕ) → inked c ≡ true → p c ≡ true)
-    → Many IsRun s rs r → all p (written-runs rs) ≡ true
-unfolding written-runs
-all-runs p a b c h stop = refl
-all-runs p a b c h (more {xs = rs} (is-run {t = t} k (G.text m) f) ms) =
-    all-append p (written-run (run k t)) (written-runs rs)
-    (all-append p (sign k) (escaped t ++ sign k) (all-sign p a b k) (all-append p (escaped t) (sign k) (all-escaped p c t (all-weaker inked p h t (inked-text m))) (all-sign p a b k)))
-    (all-runs p a b c h ms)
+pub inline-marks : Marks inline
+inline-marks =
+    record { backslash = refl; star = refl; tick = refl; hash = refl; blank = refl; dash = refl; point = refl; digit = digit-inline }
 
 pub inline-runs : {s r : List ℕ} {rs : List Run} → Many IsRun s rs r → all inline (written-runs rs) ≡ true
-inline-runs m = all-runs inline refl refl refl inked-inline m
+unfolding written-runs
+inline-runs stop = refl
+inline-runs (more {xs = rs} (is-run {t = t} k (G.text m) f) ms) =
+    all-append inline (written-run (run k t)) (written-runs rs)
+    (all-run inline inline-marks k t (all-weaker inked inline inked-inline t (inked-text m)))
+    (inline-runs ms)
 
 -- ---- the ends
 abbrev pub space-first : List ℕ → Bool
@@ -158,18 +131,3 @@ runs-ended (more {x = x} {xs = rs} h ms) f o = ended-step x rs h (λ f o. runs-e
 pub escaped-first : (x : ℕ) (u : List ℕ) → is-letter x ≡ true → escaped (x ∷ u) ≡ x ∷ escaped u
 unfolding escaped
 escaped-first x u h = rw (letter-special x (a-letter x h))
-
--- ---- in general: what is written before a line has no byte 10
-pub all-repeat-hash : (p : ℕ → Bool) → p 35 ≡ true → (n : ℕ) → all p (repeat n "#") ≡ true
-all-repeat-hash p e zero = refl
-all-repeat-hash p e (suc n) = rw e (all-repeat-hash p e n)
-
-pub all-repeat-blank : (p : ℕ → Bool) → p 32 ≡ true → (n : ℕ) → all p (repeat n "  ") ≡ true
-all-repeat-blank p e zero = refl
-all-repeat-blank p e (suc n) = rw e (all-repeat-blank p e n)
-
-digit-inline : (c : ℕ) → is-digit c ≡ true → inline c ≡ true
-digit-inline c e = let f = within-true 48 57 c e in ap not (ne-eqb c 10 (λ e. omega arith))
-
-pub inline-digits : (s : List ℕ) → all is-digit s ≡ true → all inline s ≡ true
-inline-digits = all-weaker is-digit inline digit-inline

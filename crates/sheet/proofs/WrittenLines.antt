@@ -18,10 +18,11 @@ use Rattle.sheet.specs.Grammar.{Many, IsRun, is-run, stop, more, Line}
 use Rattle.sheet.specs.Written.{span, written-runs, Row, head, text, item, place, rows-from, rows, lead, written-row, joined, written-block, written}
 use Rattle.sheet.specs.Sound.{and-inv}
 use Rattle.sheet.proofs.Facts.{false-true}
-use Rattle.sheet.proofs.Solid.{all-append, inline, inline-runs, inline-digits, all-repeat-hash, all-repeat-blank}
+use Rattle.sheet.proofs.AllChars.{all-head, all-item}
+use Rattle.sheet.proofs.Solid.{inline, inline-marks, inline-runs}
 use Rattle.sheet.proofs.ReadBack.{all-fit, line-read}
 use Rattle.sheet.proofs.Fronts.{Good, good-of, neat-of, front-empty}
-use Rattle.sheet.proofs.PageRead.{filled-append, digits-all}
+use Rattle.sheet.proofs.PageRead.{filled-append}
 use Rattle.sheet.proofs.EachLine.{Entries, Lines, a-heading, a-para, a-list, Each}
 use Rattle.sheet.proofs.EachLine as E
 
@@ -61,25 +62,26 @@ pub record IsLine (s : List ℕ) : Type 0 where
   pub filled : is-empty s ≡ false
   pub no-nl : all inline s ≡ true
 
-line-append : (a b : List ℕ) → all inline a ≡ true → IsLine b → IsLine (a ++ b)
-line-append a b e h = record { filled = filled-append a b (h .filled); no-nl = all-append inline a b e (h .no-nl) }
-
 runs-line : {l : List Run} → GoodRuns l → IsLine (written-runs l)
 runs-line g = record { filled = front-empty (g .good .front); no-nl = g .no-nl }
-
-inline-lead : (n : ℕ) → all inline (lead n) ≡ true
-inline-lead zero = refl
-inline-lead (suc n) = all-append inline (decimal (suc n)) (str ". ") (inline-digits (decimal (suc n)) (digits-all (suc (suc n)) (suc n))) refl
 
 pub data Rows : List Row → Type 0 where
   none : Rows []
   one : {r : Row} {rs : List Row} → IsLine (written-row r) → Rows rs → Rows (r ∷ rs)
 
+item-line : (d n : ℕ) (l : List Run) → GoodRuns l → IsLine (written-row (item d n l))
+item-line d n l g =
+    record {
+      filled = filled-append (repeat d "  ") (lead n ++ written-runs l) (filled-append (lead n) (written-runs l) (front-empty (g .good .front)));
+      no-nl = all-item inline inline-marks d n l (g .no-nl) }
+
+head-line : (n : ℕ) (l : List Run) → GoodRuns l → IsLine (written-row (head n l))
+head-line n l g =
+    record { filled = filled-append (repeat n "#") (32 ∷ written-runs l) refl; no-nl = all-head inline inline-marks n l (g .no-nl) }
+
 pub entry-rows : {rs : List Row} → Entries GoodRuns rs → Rows rs
 entry-rows E.none = none
-entry-rows (E.one {d} {n} {l} h g e) =
-    one (line-append (repeat d "  ") (lead n ++ written-runs l) (all-repeat-blank inline refl d) (line-append (lead n) (written-runs l) (inline-lead n) (runs-line g)))
-    (entry-rows e)
+entry-rows (E.one {d} {n} {l} h g e) = one (item-line d n l g) (entry-rows e)
 
 pub record Rowed (b : Block) : Type 0 where
   pub first : Row
@@ -89,13 +91,7 @@ pub record Rowed (b : Block) : Type 0 where
 
 pub rowed : {b : Block} → Lines GoodRuns b → Rowed b
 unfolding rows rows-from
-rowed (a-heading {n} {l} lo g) =
-    record {
-      first = head (min n 3) l;
-      others = [];
-      is = refl;
-      lined = one (line-append (repeat (min n 3) "#") (str " " ++ written-runs l) (all-repeat-hash inline refl (min n 3)) (line-append (str " ") (written-runs l) refl (runs-line g))) none;
-    }
+rowed (a-heading {n} {l} lo g) = record { first = head (min n 3) l; others = []; is = refl; lined = one (head-line (min n 3) l g) none }
 rowed (a-para {l} g) = record { first = text l; others = []; is = refl; lined = one (runs-line g) none }
 rowed (a-list {m = m} (alone l) its e) =
     record { first = item 0 (place m 1) l; others = rows-from 0 m 2 (items its); is = refl; lined = entry-rows e }
