@@ -30,10 +30,10 @@ pub data Each (P : List Run → Type 0) : List Block → Type 0 where
 
 -- ---- Q goes on holding
 module _ (Q : List ℕ → Type 0) (tail : (c : ℕ) (s : List ℕ) → Q (c ∷ s) → Q s) where
-  abbrev Kept : {A : Type 0} → (List ℕ → A → List ℕ → Type 0) → Type 0
+  abbrev pub Kept : {A : Type 0} → (List ℕ → A → List ℕ → Type 0) → Type 0
   Kept {A} R = (s : List ℕ) (x : A) (r : List ℕ) → R s x r → Q s → Q r
 
-  past : (p s : List ℕ) → Q (p ++ s) → Q s
+  pub past : (p s : List ℕ) → Q (p ++ s) → Q s
   past [] s q = q
   past (c ∷ p) s q = past p s (tail c (p ++ s) q)
 
@@ -41,7 +41,7 @@ module _ (Q : List ℕ → Type 0) (tail : (c : ℕ) (s : List ℕ) → Q (c ∷
   nl-kept G.no-nl q = q
   nl-kept (G.nl {s}) q = tail 10 s q
 
-  char-kept : Kept Char
+  pub char-kept : Kept Char
   char-kept _ _ s G.&lt q = past (str "&lt;") s q
   char-kept _ _ s G.&amp q = past (str "&amp;") s q
   char-kept _ _ s G.&gt q = past (str "&gt;") s q
@@ -49,11 +49,11 @@ module _ (Q : List ℕ → Type 0) (tail : (c : ℕ) (s : List ℕ) → Q (c ∷
   char-kept _ _ s G.blank q = past (str " ") s q
   char-kept _ _ s (G.own c h) q = tail c s q
 
-  many-kept : {A : Type 0} {s r : List ℕ} {xs : List A} (R : List ℕ → A → List ℕ → Type 0) → Kept R → Many R s xs r → Q s → Q r
+  pub many-kept : {A : Type 0} {s r : List ℕ} {xs : List A} (R : List ℕ → A → List ℕ → Type 0) → Kept R → Many R s xs r → Q s → Q r
   many-kept R k stop q = q
   many-kept R k (more {s} {m} {r} {x} h ms) q = many-kept R k ms (k s x m h q)
 
-  run-kept : Kept IsRun
+  pub run-kept : Kept IsRun
   run-kept _ _ m (is-run {s} k (G.text ms) f) q = past (after k) m (many-kept Char char-kept ms (past (before k) s q))
 
   line-kept : Kept Line

@@ -10,3 +10,5 @@ pub mod ReadAll
 pub mod Calm
 pub mod Places
 pub mod SheetReads
+pub mod SheetScalars
+pub mod SheetWf

@@ -51,7 +51,7 @@ all-fit [] = true
 all-fit (run k t ∷ rs) = fits k t && all-fit rs
 
 -- no run's text is empty
-filled : {A : Type 0} (k : Kind) → fits k [] ≡ true → A
+pub filled : {A : Type 0} (k : Kind) → fits k [] ≡ true → A
 unfolding fits singles first-is
 filled plain e = true-false (sym e)
 filled strong e = true-false (sym e)
