@@ -8,6 +8,7 @@ pub mod EachLine
 pub mod WrittenLines
 pub mod ReadAll
 pub mod Calm
+pub mod WrittenSize
 pub mod Places
 pub mod SheetReads
 pub mod SheetScalars

@@ -9,28 +9,17 @@ use borrow.Author.Tests.{ltb-false}
 use lib.Dec.{ltb}
 use lib.ListN.{length, length-append}
 use Rattle.text.specs.Words.{str}
-use Rattle.text.specs.Utf8.{utf8, size}
+use Rattle.text.specs.Utf8.{size}
 use Rattle.text.specs.Decimal.{digits, decimal}
-use Rattle.text.proofs.Laws.{utf8-size}
 use Rattle.sheet.specs.Tree.{Mark, ul, ol, Items, end, leaf, node, items, Block}
 use Rattle.sheet.specs.Written.{Row, place, rows-from, rows, written-row, joined, written-block, written}
 use Rattle.sheet.proofs.PageRead.{empty-some}
+use Rattle.sheet.proofs.WrittenSize.{length-size}
 use Rattle.sheet.proofs.EachLine.{Lines, a-heading, a-para, a-list, Each}
 use Rattle.sheet.proofs.EachLine as E
 use Rattle.sheet.proofs.WrittenLines.{GoodRuns, Rows, entry-rows}
 use Rattle.sheet.proofs.WrittenLines as W
 use Rattle.sheet.proofs.ReadAll.{AllShort, Shorts}
-
--- ---- bytes
-pub size-append : (s t : List ℕ) → size (s ++ t) ≡ size s + size t
-unfolding size
-size-append [] t = omega arith
-size-append (c ∷ s) t = omega (arith, size-append s t)
-
-pub length-size : (s : List ℕ) → length s ≤ size s
-unfolding size
-length-size [] = omega arith
-length-size (c ∷ s) = omega (arith, utf8-size c, length-size s)
 
 -- ---- digits
 more-digits : (b e : ℕ) → ((k m : ℕ) → m < b → length (digits k m) ≤ e) → 1 ≤ e → (k n : ℕ) → n < 10 * b → length (digits k n) ≤ suc e

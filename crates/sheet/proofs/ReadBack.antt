@@ -51,13 +51,17 @@ all-fit [] = true
 all-fit (run k t ∷ rs) = fits k t && all-fit rs
 
 -- no run's text is empty
-pub filled : {A : Type 0} (k : Kind) → fits k [] ≡ true → A
+filled : {A : Type 0} (k : Kind) → fits k [] ≡ true → A
 unfolding fits singles first-is
 filled plain e = true-false (sym e)
 filled strong e = true-false (sym e)
 filled em e = true-false (sym e)
 filled both e = true-false (sym e)
 filled code e = true-false (sym e)
+
+pub filled-text : (k : Kind) (t : List ℕ) → fits k t ≡ true → is-empty t ≡ false
+filled-text k [] e = filled k e
+filled-text k (a ∷ t) e = refl
 
 pub code-text : (u : List ℕ) → fits code u ≡ true → none-of special u ≡ true
 unfolding fits

@@ -6,26 +6,25 @@ use mathlib.Core.Path.{_≡_, refl}
 use mathlib.Core.Bool.{Bool, true, false, _&&_}
 use mathlib.Core.Logic.{inl}
 use mathlib.Core.List.{List, [], _∷_, _++_, map}
-use Rattle.text.specs.Words.{str, all, is-empty}
+use Rattle.text.specs.Words.{str, all}
 use Rattle.text.specs.Chars.{is-scalar, is-digit}
 use Rattle.text.specs.Utf8.{Scalars}
 use Rattle.text.proofs.Tests.{within-true}
 use Rattle.text.proofs.Laws.{scalar-is, scalars-true}
 use Rattle.sheet.specs.Tree.{Kind, Run, run, items, Block}
 use Rattle.sheet.specs.Grammar as G
-use Rattle.sheet.specs.Grammar.{before, Char, Many, stop, more, concat, fits, IsRun, is-run, Line, IsPage}
+use Rattle.sheet.specs.Grammar.{before, Char, Many, stop, more, concat, IsRun, is-run, Line, IsPage}
 use Rattle.sheet.specs.Written.{written-run, written-runs, Row, rows-from, rows, written-row, joined, written-block, written}
 use Rattle.sheet.proofs.AllChars.{all-append, Marks, all-run, all-head, all-item}
-use Rattle.sheet.proofs.ReadBack.{filled}
 use Rattle.sheet.proofs.EachLine.{past, char-kept, run-kept, Entries, Lines, a-heading, a-para, a-list, Each, page-lines}
 use Rattle.sheet.proofs.EachLine as E
 
--- each run's text is of scalar values, and not empty
+-- each run's text is of scalar values
 abbrev pub Texts : List Run → Type 0
 Texts [] = Unit {0}
-Texts (run k t ∷ rs) = ((all is-scalar t ≡ true) × (is-empty t ≡ false)) × Texts rs
+Texts (run k t ∷ rs) = (all is-scalar t ≡ true) × Texts rs
 
-rest : (c : ℕ) (s : List ℕ) → Scalars (c ∷ s) → Scalars s
+pub rest : (c : ℕ) (s : List ℕ) → Scalars (c ∷ s) → Scalars s
 rest c s h = h .1
 
 char-scalar : {s q m : List ℕ} → Char s q m → Scalars s → all is-scalar q ≡ true
@@ -42,19 +41,15 @@ text-scalar stop h = refl
 text-scalar (more {s} {m} {x = q} {xs = qs} c ms) h =
     all-append is-scalar q (concat qs) (char-scalar c h) (text-scalar ms (char-kept Scalars rest s q m c h))
 
-filled-text : (k : Kind) (t : List ℕ) → fits k t ≡ true → is-empty t ≡ false
-filled-text k [] e = filled k e
-filled-text k (a ∷ t) e = refl
-
 runs-texts : {s r : List ℕ} {rs : List Run} → Many IsRun s rs r → Scalars s → Texts rs
 runs-texts stop h = tt
 runs-texts (more (is-run {s} {t} {m} k (G.text cs) f) ms) h =
     (
-      (text-scalar cs (past Scalars rest (before k) s h), filled-text k t f),
+      text-scalar cs (past Scalars rest (before k) s h),
       runs-texts ms (run-kept Scalars rest (before k ++ s) (run k t) m (is-run k (G.text cs) f) h),
     )
 
-line-texts : (s : List ℕ) (l : List Run) (r : List ℕ) → Line s l r → Scalars s → Texts l
+pub line-texts : (s : List ℕ) (l : List Run) (r : List ℕ) → Line s l r → Scalars s → Texts l
 line-texts s l r (G.line ms f) h = runs-texts ms h
 
 pub page-texts : {s : List ℕ} {t : List Block} → IsPage s t → Scalars s → Each Texts t
@@ -73,7 +68,7 @@ runs-scalar : (l : List Run) → Texts l → all is-scalar (written-runs l) ≡ 
 unfolding written-runs
 runs-scalar [] h = refl
 runs-scalar (run k t ∷ rs) h =
-    all-append is-scalar (written-run (run k t)) (written-runs rs) (all-run is-scalar scalar-marks k t (h .0 .0)) (runs-scalar rs (h .1))
+    all-append is-scalar (written-run (run k t)) (written-runs rs) (all-run is-scalar scalar-marks k t (h .0)) (runs-scalar rs (h .1))
 
 -- what is joined, all of it scalar values
 data Scalar : List (List ℕ) → Type 0 where

@@ -18,43 +18,28 @@ use Rattle.records.specs.Blocks as B
 use Rattle.records.specs.Blocks.{Span}
 use Rattle.records.specs.Format.{non-empty, is-bullet, digits-stop, is-ordinal, is-marker, WfSpan, WfSpans, WfKind, WfBlock, WfBlocks}
 use Rattle.sheet.specs.Tree.{Kind, plain, strong, em, both, code, Run, run, items, Block}
-use Rattle.sheet.specs.Grammar.{IsPage}
+use Rattle.sheet.specs.Grammar.{fits, Line, IsPage}
 use Rattle.sheet.specs.Written.{span, escaped, sign, written-run, written-runs, Row, head, text, item, rows-from, rows, lead, written-row, joined, written-block, written, marker, block-of, blocks-of}
 use Rattle.sheet.specs.Sound.{and-inv}
 use Rattle.sheet.proofs.Facts.{false-true}
 use Rattle.sheet.proofs.AllChars.{decimal-all, decimal-some}
-use Rattle.sheet.proofs.EachLine.{Entries, Lines, a-heading, a-para, a-list, Each}
+use Rattle.sheet.proofs.ReadBack.{all-fit, filled-text}
+use Rattle.sheet.proofs.EachLine.{Entries, Lines, a-heading, a-para, a-list, Each, page-lines}
 use Rattle.sheet.proofs.EachLine as E
+use Rattle.sheet.proofs.WrittenLines.{good-runs}
 use Rattle.sheet.proofs.ReadAll.{AllShort, Shorts}
-use Rattle.sheet.proofs.Places.{size-append, length-size, places-short}
+use Rattle.sheet.proofs.WrittenSize.{size-append, size-run, runs-few, size-item, size-head, size-joined, size-written}
+use Rattle.sheet.proofs.Places.{places-short}
 use Rattle.sheet.proofs.SheetReads.{good-lines}
-use Rattle.sheet.proofs.SheetScalars.{Texts, page-texts}
+use Rattle.sheet.proofs.SheetScalars.{Texts, rest, line-texts}
 
--- ---- a text is no longer than what is written of it
-pub size-escaped : (t : List ℕ) → size t ≤ size (escaped t)
-unfolding escaped size
-size-escaped [] = omega arith
-size-escaped (x ∷ t) = go (special x) (size-escaped t)
-  where
-    go : (b : Bool) → size t ≤ size (escaped t) → length (utf8 x) + size t ≤ size (cond b (92 ∷ x ∷ []) (x ∷ []) ++ escaped t)
-    go true h = omega arith
-    go false h = omega arith
+-- ---- what is asked of a line
+record Clean (l : List Run) : Type 0 where
+  fit : all-fit l ≡ true
+  texts : Texts l
 
-pub size-run : (k : Kind) (t : List ℕ) → size t ≤ size (written-run (run k t))
-size-run k t =
-    omega (arith, size-escaped t, size-append (sign k) (escaped t ++ sign k), size-append (escaped t) (sign k))
-
-pub size-filled : (t : List ℕ) → is-empty t ≡ false → 1 ≤ size t
-unfolding size
-size-filled [] e = false-true (sym e)
-size-filled (c ∷ t) e = omega (arith, utf8-size c)
-
--- as many runs as bytes, at most
-pub runs-few : (l : List Run) → Texts l → length l ≤ size (written-runs l)
-unfolding written-runs
-runs-few [] h = omega arith
-runs-few (run k t ∷ rs) h =
-    omega (arith, size-append (written-run (run k t)) (written-runs rs), size-run k t, size-filled t (h .0 .1), runs-few rs (h .1))
+line-clean : (s : List ℕ) (l : List Run) (r : List ℕ) → Line s l r → Scalars s → Clean l
+line-clean s l r h q = record { fit = good-runs h .fit; texts = line-texts s l r h q }
 
 -- ---- spans
 span-text : (k : Kind) (t : List ℕ) → span (run k t) .text ≡ t
@@ -75,12 +60,13 @@ wf-span k (c ∷ t) h e l =
       bounded = rw (span-text k (c ∷ t)) (omega arith);
       shown = span-shown (span (run k (c ∷ t))) c t (span-text k (c ∷ t)) }
 
-wf-spans : (l : List Run) → Texts l → size (written-runs l) < 16000 → WfSpans (map span l)
-unfolding written-runs
-wf-spans [] h l = tt
-wf-spans (run k t ∷ rs) h l =
+wf-spans : (l : List Run) → all-fit l ≡ true → Texts l → size (written-runs l) < 16000 → WfSpans (map span l)
+unfolding written-runs all-fit
+wf-spans [] e h l = tt
+wf-spans (run k t ∷ rs) e h l =
+    let f = and-inv (fits k t) (all-fit rs) e in
     let a = size-append (written-run (run k t)) (written-runs rs) in
-    (wf-span k t (h .0 .0) (h .0 .1) (omega (arith, size-run k t)), wf-spans rs (h .1) (omega arith))
+    (wf-span k t (h .0) (filled-text k t (f .0)) (omega (arith, size-run k t)), wf-spans rs (f .1) (h .1) (omega arith))
 
 -- ---- markers
 stop-after : (ds : List ℕ) → all is-digit ds ≡ true → digits-stop (ds ++ str ".") ≡ true
@@ -109,31 +95,18 @@ marker-is (suc n) h =
     (rw (le-leb 2 (length (ds ++ str ".")) (omega arith), le-leb (length (ds ++ str ".")) 10 (omega arith)) (stop-after ds (decimal-all (suc n))))
 
 -- ---- blocks
-wf-block : (k : B.Kind) (l : List Run) → WfKind k → Texts l → size (written-runs l) < 16000 → WfBlock (record { kind = k; spans = map span l })
+wf-block : (k : B.Kind) (l : List Run) → WfKind k → Clean l → size (written-runs l) < 16000 → WfBlock (record { kind = k; spans = map span l })
 wf-block k l w h b =
-    record { kind = w; spans = wf-spans l h b; bounded = rw (length-map l span) (omega (arith, runs-few l h)) }
+    record { kind = w; spans = wf-spans l (h .fit) (h .texts) b; bounded = rw (length-map l span) (omega (arith, runs-few l (h .fit))) }
 
 wf-append : (a b : List B.Block) → WfBlocks a → WfBlocks b → WfBlocks (a ++ b)
 wf-append [] b h g = g
 wf-append (x ∷ a) b h g = (h .0, wf-append a b (h .1) g)
 
-pub size-item : (d n : ℕ) (l : List Run) → size (written-row (item d n l)) ≡ size (repeat d "  ") + size (lead n) + size (written-runs l)
-size-item d n l = omega (arith, size-append (repeat d "  ") (lead n ++ written-runs l), size-append (lead n) (written-runs l))
-
-pub size-head : (n : ℕ) (l : List Run) → size (written-row (head n l)) ≡ size (repeat n "#") + 1 + size (written-runs l)
-unfolding size utf8
-size-head n l = omega (arith, size-append (repeat n "#") (32 ∷ written-runs l))
-
--- rows one below the other
-pub size-joined : (r q : Row) (rs : List Row)
-    → size (joined (str "\n") (map written-row (r ∷ q ∷ rs))) ≡ size (written-row r) + 1 + size (joined (str "\n") (map written-row (q ∷ rs)))
-unfolding joined size utf8
-size-joined r q rs = omega (arith, size-append (written-row r) (10 ∷ joined (str "\n") (map written-row (q ∷ rs))))
-
-wf-item : (d n : ℕ) (l : List Run) → d < 8 → Texts l → length (decimal n) ≤ 9 → size (written-row (item d n l)) < 16000 → WfBlock (block-of (item d n l))
+wf-item : (d n : ℕ) (l : List Run) → d < 8 → Clean l → length (decimal n) ≤ 9 → size (written-row (item d n l)) < 16000 → WfBlock (block-of (item d n l))
 wf-item d n l b h s w = wf-block (B.item d (marker n)) l (omega arith, marker-is n s) h (omega (arith, size-item d n l))
 
-wf-entries : {rs : List Row} → Entries Texts rs → AllShort rs → size (joined (str "\n") (map written-row rs)) < 16000 → WfBlocks (map block-of rs)
+wf-entries : {rs : List Row} → Entries Clean rs → AllShort rs → size (joined (str "\n") (map written-row rs)) < 16000 → WfBlocks (map block-of rs)
 unfolding joined
 wf-entries E.none s w = tt
 wf-entries (E.one {d} {n} {l} b h E.none) s w = (wf-item d n l b h (s .0) w, tt)
@@ -141,7 +114,7 @@ wf-entries (E.one {d} {n} {l} b h (E.one {d = e} {n = k} {l = j} {rs = rs} c i e
     let a = size-joined (item d n l) (item e k j) rs in
     (wf-item d n l b h (s .0) (omega arith), wf-entries (E.one {d = e} {n = k} {l = j} {rs = rs} c i es) (s .1) (omega arith))
 
-wf-rows : {b : Block} → Lines Texts b → AllShort (rows b) → size (written-block b) < 16000 → WfBlocks (map block-of (rows b))
+wf-rows : {b : Block} → Lines Clean b → AllShort (rows b) → size (written-block b) < 16000 → WfBlocks (map block-of (rows b))
 unfolding rows joined
 wf-rows (a-heading {n} {l} lo h) s w =
     let a = size-head (min n 3) l in
@@ -149,12 +122,7 @@ wf-rows (a-heading {n} {l} lo h) s w =
 wf-rows (a-para {l} h) s w = (wf-block B.paragraph l tt h w, tt)
 wf-rows (a-list it its e) s w = wf-entries e s w
 
--- blocks with a gap between them
-pub size-written : (b c : Block) (bs : List Block) → size (written (b ∷ c ∷ bs)) ≡ size (written-block b) + 2 + size (written (c ∷ bs))
-unfolding written joined size utf8
-size-written b c bs = omega (arith, size-append (written-block b) (10 ∷ 10 ∷ written (c ∷ bs)))
-
-wf-all : (bs : List Block) → Each Texts bs → Shorts bs → size (written bs) < 16000 → WfBlocks (blocks-of bs)
+wf-all : (bs : List Block) → Each Clean bs → Shorts bs → size (written bs) < 16000 → WfBlocks (blocks-of bs)
 unfolding blocks-of written joined
 wf-all [] E.none s w = tt
 wf-all (b ∷ []) (E.one h e) s w = wf-append (map block-of (rows b)) [] (wf-rows h (s .0) w) tt
@@ -163,4 +131,4 @@ wf-all (b ∷ c ∷ bs) (E.one h e) s w =
     wf-append (map block-of (rows b)) (blocks-of (c ∷ bs)) (wf-rows h (s .0) (omega arith)) (wf-all (c ∷ bs) e (s .1) (omega arith))
 
 pub sheet-wf : {s : List ℕ} {t : List Block} → IsPage s t → Scalars s → size (written t) < 16000 → WfBlocks (blocks-of t)
-sheet-wf {t = t} p h l = wf-all t (page-texts p h) (places-short t (good-lines p) l) l
+sheet-wf {t = t} p h l = wf-all t (page-lines Scalars rest Clean line-clean p h) (places-short t (good-lines p) l) l

@@ -31,15 +31,20 @@ pub record GoodRuns (l : List Run) : Type 0 where
   pub good : Good (written-runs l)
   pub spans-are : spans (written-runs l) ≡ map span l
   pub no-nl : all inline (written-runs l) ≡ true
+  pub fit : all-fit l ≡ true
 
-pub fit-of : {s r : List ℕ} {rs : List Run} → Many IsRun s rs r → all-fit rs ≡ true
+fit-of : {s r : List ℕ} {rs : List Run} → Many IsRun s rs r → all-fit rs ≡ true
 unfolding all-fit
 fit-of stop = refl
 fit-of (more (is-run k T f) ms) = rw (f, fit-of ms)
 
 pub good-runs : {s r : List ℕ} {l : List Run} → Line s l r → GoodRuns l
 good-runs {l = l} (G.line m f) =
-    record { good = good-of (G.line m f); spans-are = line-read l (neat-of l f .parted) (fit-of m); no-nl = inline-runs m }
+    record {
+      good = good-of (G.line m f);
+      spans-are = line-read l (neat-of l f .parted) (fit-of m);
+      no-nl = inline-runs m;
+      fit = fit-of m }
 
 -- ---- `lines`
 lines-nl : (s t : List ℕ) → all inline s ≡ true → lines (s ++ (10 ∷ t)) ≡ s ∷ lines t
