@@ -2,9 +2,9 @@
 -- Assumes nothing.
 use Prim.Native.Nat.{ℕ, zero, suc, _+_, _/_, _%_, _≤_, _<_}
 use native.Mathlib.Omega.{arith}
-use mathlib.Core.Path.{_≡_, refl, sym, _∙_, ap}
-use mathlib.Core.Bool.{Bool, true, false, cond, _&&_}
-use mathlib.Core.List.{List, [], _∷_, _++_, map}
+use mathlib.Core.Path.{_≡_, refl}
+use mathlib.Core.Bool.{Bool, true, false, cond}
+use mathlib.Core.List.{List, [], _∷_, _++_}
 use borrow.Author.Tests.{ltb-true}
 use lib.Dec.{ltb}
 use lib.ListN.{length, length-append}
@@ -14,7 +14,7 @@ use Rattle.text.specs.Decimal.{digits, decimal}
 use Rattle.text.proofs.Tests.{within-is}
 use Rattle.html.specs.State.{special}
 use Rattle.sheet.specs.Tree.{Kind, plain, strong, em, both, code, Run, run}
-use Rattle.sheet.specs.Written.{escaped, sign, written-run, written-runs, Row, head, text, item, lead, written-row}
+use Rattle.sheet.specs.Written.{escaped, sign, written-run, written-runs, head, item, lead, written-row}
 use Rattle.sheet.specs.Sound.{and-inv}
 
 pub all-append : (p : ℕ → Bool) (s t : List ℕ) → all p s ≡ true → all p t ≡ true → all p (s ++ t) ≡ true
@@ -36,7 +36,7 @@ digits-all zero n = refl
 digits-all (suc k) n = go (ltb n 10) refl (digits-all k (n / 10))
   where
     go : (b : Bool) → ltb n 10 ≡ b → all is-digit (digits k (n / 10)) ≡ true
-      → all is-digit (cond b ((48 + n) ∷ []) (digits k (n / 10) ++ ((48 + n % 10) ∷ []))) ≡ true
+        → all is-digit (cond b ((48 + n) ∷ []) (digits k (n / 10) ++ ((48 + n % 10) ∷ []))) ≡ true
     go true e h = rw (digit-low n (ltb-true n 10 e))
     go false e h = all-append is-digit (digits k (n / 10)) ((48 + n % 10) ∷ []) h (rw (digit-low (n % 10) (omega arith)))
 

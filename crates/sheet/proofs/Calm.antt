@@ -2,9 +2,8 @@
 -- Assumes nothing.
 use Prim.Native.Nat.{ℕ, zero, suc}
 use native.Mathlib.Omega.{arith}
-use mathlib.Core.Path.{_≡_, refl, sym, _∙_, ap}
+use mathlib.Core.Path.{_≡_, refl, ap}
 use mathlib.Core.Bool.{Bool, true, false, cond, not, _&&_, and-false}
-use mathlib.Core.Option.{Option, none, some}
 use mathlib.Core.List.{List, [], _∷_, _++_, map}
 use borrow.Author.Tests.{not-true, ne-eqb}
 use lib.Dec.{eqb}
@@ -74,10 +73,10 @@ safe-escaped (x ∷ t) = safe-append (cond (special x) (92 ∷ x ∷ []) (x ∷ 
 
 safe-sign : (k : Kind) → Safe (sign k)
 safe-sign plain = safe-nil
-safe-sign strong = safe-mild (str "**") refl
-safe-sign em = safe-mild (str "*") refl
-safe-sign both = safe-mild (str "***") refl
-safe-sign code = safe-mild (str "`") refl
+safe-sign strong = safe-mild (sign strong) refl
+safe-sign em = safe-mild (sign em) refl
+safe-sign both = safe-mild (sign both) refl
+safe-sign code = safe-mild (sign code) refl
 
 safe-runs : (rs : List Run) → Safe (written-runs rs)
 unfolding written-runs

@@ -5,10 +5,10 @@ use Prim.Native.Nat.{ℕ, zero, suc, _+_, _≤_, _<_}
 use native.Mathlib.Omega.{arith}
 use mathlib.Core.List.{List, [], _∷_, _++_}
 use Rattle.text.specs.Words.{str}
-use Rattle.sheet.specs.Tree.{Run, Mark, Items, Item, alone, with, cons, items, Block, heading, para, list}
+use Rattle.sheet.specs.Tree.{Run, Mark, Items, Item, cons, items, Block, heading, para, list}
 use Rattle.sheet.specs.Grammar as G
-use Rattle.sheet.specs.Grammar.{opens, opens-h, closes, closes-h, before, after, NL, Char, Many, stop, more, Text, IsRun, is-run, Line, ThenNL, IsItem, is-alone, is-with, ListOf, IsList, IsBlock, is-heading, is-para, IsPage}
-use Rattle.sheet.specs.Written.{Row, head, text, item, place, rows-from}
+use Rattle.sheet.specs.Grammar.{opens, opens-h, closes, closes-h, before, after, NL, Char, Many, stop, more, IsRun, is-run, Line, ThenNL, IsItem, is-alone, is-with, IsList, IsBlock, is-heading, is-para, IsPage}
+use Rattle.sheet.specs.Written.{Row, item, rows-from}
 
 -- the rows of a list: items only, at most 8 deep
 pub data Entries (P : List Run → Type 0) : List Row → Type 0 where

@@ -1,17 +1,15 @@
 -- Facts about the characters of a sheet: what is not special, letters, digits, and which characters are no spaces.
 -- Assumes nothing.
-use Prim.Native.Nat.{ℕ, zero, suc, _+_, _≤_, _<_}
+use Prim.Native.Nat.{ℕ, _≤_, _<_}
 use native.Mathlib.Omega.{arith}
-use mathlib.Core.Path.{_≡_, refl, sym, _∙_, ap, subst}
-use mathlib.Core.Bool.{Bool, true, false, cond, not, _&&_, _||_, and-false}
+use mathlib.Core.Path.{_≡_, refl, sym, _∙_, subst}
+use mathlib.Core.Bool.{Bool, true, false, _||_, and-false}
 use mathlib.Core.Logic.{_⊎_, inl, inr, ⊎-elim}
-use mathlib.Core.List.{List, [], _∷_, _++_}
-use borrow.Author.Tests.{not-true, ne-eqb, eqb-true, lt-leb, leb-true}
-use lib.Dec.{eqb, leb}
+use borrow.Author.Tests.{ne-eqb, eqb-true, lt-leb}
+use lib.Dec.{eqb}
 use Rattle.text.specs.Chars.{within, is-space, is-digit, is-letter}
 use Rattle.text.proofs.Tests.{or-elim, within-true}
 use Rattle.html.specs.State.{special}
-use Rattle.sheet.specs.Sound.{and-inv}
 
 pub true-false : {A : Type 0} → true ≡ false → A
 true-false e = let z : _≡_ {A = ℕ} 0 1 = cc in absurd (omega arith)

@@ -1,25 +1,22 @@
 -- What a written line starts with, and so what the block reader does not take it for: a heading, a list item, a rule, a row of a table, the
 -- continuation of an item.
 -- Assumes nothing.
-use Prim.Native.Nat.{ℕ, zero, suc, _+_, _/_, _≤_, _<_}
+use Prim.Native.Nat.{ℕ, _+_}
 use native.Mathlib.Omega.{arith}
 use mathlib.Core.Path.{_≡_, refl, sym, _∙_, ap, subst}
-use mathlib.Core.Bool.{Bool, true, false, cond, not, _&&_, _||_, and-false}
-use mathlib.Core.Logic.{_⊎_, inl, inr}
-use mathlib.Core.Option.{Option, none, some}
-use mathlib.Core.List.{List, [], _∷_, _++_, reverse, reverseAux, append-nil, reverse-reverse}
-use borrow.Author.Tests.{not-true}
-use lib.Dec.{eqb, leb}
-use lib.ListN.{length, drop}
-use Rattle.text.specs.Words.{str, is, matches, is-empty, all, any, starts, take-while, drop-while, trim-end-matches}
+use mathlib.Core.Bool.{Bool, true, false, _&&_, _||_, and-false}
+use mathlib.Core.Logic.{inl, inr}
+use mathlib.Core.Option.{none}
+use mathlib.Core.List.{List, [], _∷_, _++_, reverse, reverse-reverse}
+use lib.Dec.{eqb}
+use Rattle.text.specs.Words.{matches, is-empty, all, starts, drop-while, trim-end-matches}
 use Rattle.text.specs.Chars.{is-space, is-digit, is-letter}
-use Rattle.text.specs.Utf8.{size}
 use Rattle.text.specs.Trim.{trim}
-use Rattle.markdown.specs.Blocks.{is-rule, Marked, marker-at, list-marker}
+use Rattle.markdown.specs.Blocks.{is-rule, marker-at, list-marker}
 use Rattle.sheet.specs.Tree.{Kind, plain, strong, em, both, code, Run, run}
 use Rattle.sheet.specs.Grammar as G
 use Rattle.sheet.specs.Grammar.{Many, stop, more, IsRun, is-run, Line, first-is, apart, first-letter, last-no-blank, neat}
-use Rattle.sheet.specs.Written.{escaped, written-run, written-runs}
+use Rattle.sheet.specs.Written.{escaped, sign, written-run, written-runs}
 use Rattle.sheet.specs.Sound.{and-inv}
 use Rattle.sheet.proofs.Facts.{false-true, Letter, a-letter, letter-is-not, letter-space, letter-digit}
 use Rattle.sheet.proofs.Solid.{space-first, runs-ended, escaped-first}
@@ -118,7 +115,7 @@ front-run : (k : Kind) (x : ℕ) (u s : List ℕ) → is-letter x ≡ true → F
 front-run plain x u s h = subst (λ (e : List ℕ). Front ((e ++ []) ++ s)) (sym (escaped-first x u h)) (letter-front (a-letter x h))
 front-run strong x u s h = star-front refl
 front-run em x u s h =
-    subst (λ (e : List ℕ). Front (42 ∷ ((e ++ str "*") ++ s))) (sym (escaped-first x u h))
+    subst (λ (e : List ℕ). Front (42 ∷ ((e ++ sign em) ++ s))) (sym (escaped-first x u h))
     (star-front (letter-is-not x (a-letter x h) 32 (inl (omega arith))))
 front-run both x u s h = star-front refl
 front-run code x u s h = tick-front
@@ -126,9 +123,9 @@ front-run code x u s h = tick-front
 -- the letter that follows the stars
 rule-run : (k : Kind) (x : ℕ) (u s : List ℕ) → is-letter x ≡ true → all ruled (written-run (run k (x ∷ u)) ++ s) ≡ false
 rule-run plain x u s h = rw (escaped-first x u h) (rule-first x ((escaped u ++ []) ++ s) (a-letter x h))
-rule-run strong x u s h = rw (escaped-first x u h) (rule-first x ((escaped u ++ str "**") ++ s) (a-letter x h))
-rule-run em x u s h = rw (escaped-first x u h) (rule-first x ((escaped u ++ str "*") ++ s) (a-letter x h))
-rule-run both x u s h = rw (escaped-first x u h) (rule-first x ((escaped u ++ str "***") ++ s) (a-letter x h))
+rule-run strong x u s h = rw (escaped-first x u h) (rule-first x ((escaped u ++ sign strong) ++ s) (a-letter x h))
+rule-run em x u s h = rw (escaped-first x u h) (rule-first x ((escaped u ++ sign em) ++ s) (a-letter x h))
+rule-run both x u s h = rw (escaped-first x u h) (rule-first x ((escaped u ++ sign both) ++ s) (a-letter x h))
 rule-run code x u s h = refl
 
 -- what the reader needs of a written line

@@ -13,3 +13,4 @@ pub mod Places
 pub mod SheetReads
 pub mod SheetScalars
 pub mod SheetWf
+pub mod SheetRecords

@@ -1,28 +1,25 @@
 -- Reading one line of a sheet's written form: a paragraph, a heading, an item.
 -- Assumes nothing.
-use Prim.Native.Nat.{ℕ, zero, suc, _+_, _-_, _*_, _/_, _%_, _≤_, _<_, min}
+use Prim.Native.Nat.{ℕ, zero, suc, _+_, _-_, _*_, _/_, _≤_, min}
 use native.Mathlib.Omega.{arith}
-use mathlib.Core.Path.{_≡_, refl, sym, _∙_, ap, subst}
-use mathlib.Core.Bool.{Bool, true, false, cond, not, _&&_, _||_, and-false}
-use mathlib.Core.Logic.{_⊎_, inl, inr}
-use mathlib.Core.Option.{Option, none, some}
-use mathlib.Core.List.{List, [], _∷_, _++_, map, reverse, reverseAux, append-nil, append-assoc, reverse-append, reverse-reverse}
-use borrow.Author.Tests.{ne-eqb, le-leb, ltb-true}
-use lib.Dec.{eqb, leb, ltb}
-use lib.ListN.{length, drop, length-append, length-reverse}
+use mathlib.Core.Path.{_≡_, refl, sym, _∙_, ap}
+use mathlib.Core.Bool.{true, false}
+use mathlib.Core.Option.{some}
+use mathlib.Core.List.{List, [], _∷_, _++_, reverse, append-assoc, reverse-append}
+use borrow.Author.Tests.{ne-eqb, le-leb}
+use lib.ListN.{length, length-reverse}
 use Rattle.text.specs.Words.{str, repeat, is, is-empty, all, starts, take-while, drop-while, trim-end-matches}
-use Rattle.text.specs.Chars.{is-space, is-digit, within}
+use Rattle.text.specs.Chars.{is-space, is-digit}
 use Rattle.text.specs.Utf8.{size, utf8}
 use Rattle.text.specs.Trim.{trim}
-use Rattle.text.specs.Decimal.{digits, decimal}
 use Rattle.text.proofs.Tests.{within-true, within-is}
-use Rattle.records.specs.Blocks.{Span, Block, Heading, Paragraph, Item}
+use Rattle.records.specs.Blocks.{Block, Heading, Paragraph, Item}
 use Rattle.spans.specs.Spans.{spans}
-use Rattle.markdown.specs.Blocks.{Marked, marked, marker-at, list-marker, Reader, reader, flush, heading, paragraph, read-text, read-line}
+use Rattle.markdown.specs.Blocks.{Marked, marker-at, list-marker, Reader, reader, flush, heading, paragraph, read-text, read-line}
 use Rattle.sheet.specs.Sound.{and-inv}
 use Rattle.sheet.proofs.Facts.{false-true, visible}
 use Rattle.sheet.proofs.Solid.{space-first}
-use Rattle.sheet.proofs.Fronts.{solid-drop, trim-start-is, trim-id, Front, front-hash, front-bar, front-blank, front-empty, front-solid, front-marker, bulleted, no-rule, Good}
+use Rattle.sheet.proofs.Fronts.{solid-drop, trim-start-is, trim-id, front-hash, front-bar, front-blank, front-empty, front-solid, front-marker, bulleted, no-rule, Good}
 
 -- ---- paragraphs
 pub read-para : (b : List Block) (w : List ℕ) → Good w → read-line (reader b []) w ≡ reader b w

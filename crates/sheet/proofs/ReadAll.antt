@@ -9,9 +9,8 @@ use Rattle.text.specs.Words.{str, repeat}
 use Rattle.text.specs.Decimal.{decimal}
 use Rattle.records.specs.Blocks as B
 use Rattle.records.specs.Blocks.{Span, Heading, Paragraph}
-use Rattle.spans.specs.Spans.{spans}
 use Rattle.markdown.specs.Blocks.{cleaned, lines, Reader, reader, flush, read-line, read-lines, blocks}
-use Rattle.sheet.specs.Tree.{Run, Item, items, Block}
+use Rattle.sheet.specs.Tree.{Run, items, Block}
 use Rattle.sheet.specs.Written.{span, written-runs, Row, head, text, item, rows-from, rows, written-row, written, marker, block-of, blocks-of}
 use Rattle.sheet.proofs.AllChars.{decimal-all, decimal-some}
 use Rattle.sheet.proofs.Fronts.{front-empty}

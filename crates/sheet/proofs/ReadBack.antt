@@ -1,19 +1,18 @@
 -- Reading a written line gives its runs' spans. Between two texts stand k stars: k / 2 turns of bold, then k % 2 turns of italic, and only
 -- where two runs with italic touch does that not end the one and begin the other.
 -- Assumes nothing.
-use Prim.Native.Nat.{ℕ, zero, suc, _+_, _<_}
+use Prim.Native.Nat.{ℕ, suc, _+_, _<_}
 use native.Mathlib.Omega.{arith}
 use native.Mathlib.Numerals.{add-one}
 use mathlib.Core.Path.{_≡_, refl, sym, _∙_, ap, subst}
-use mathlib.Core.Bool.{Bool, true, false, cond, not, _&&_, _||_}
+use mathlib.Core.Bool.{Bool, true, false, cond, not, _&&_}
 use mathlib.Core.Logic.{_⊎_, inl, inr}
-use mathlib.Core.Option.{Option, none, some}
+use mathlib.Core.Option.{some}
 use mathlib.Core.List.{List, [], _∷_, _++_, map, reverse, reverseAux, append-nil, append-assoc, reverse-reverse}
-use lib.Dec.{eqb}
-use lib.ListN.{length, take, drop, getD, length-reverse}
+use lib.ListN.{length, length-reverse}
 use lib.Seq.{take-append-seam, append-snoc}
 use borrow.Author.Tests.{not-true}
-use Rattle.text.specs.Words.{str, case, starts, is-empty, index, find}
+use Rattle.text.specs.Words.{starts, is-empty, index, find}
 use Rattle.html.specs.State.{special}
 use Rattle.records.specs.Blocks.{Span}
 use Rattle.spans.specs.Spans as S
@@ -82,10 +81,10 @@ abbrev at-rest : Walk
 at-rest = at false false []
 
 abbrev closer : Kind → List ℕ
-closer plain = []
-closer strong = str "**"
-closer em = str "*"
-closer both = str "***"
+closer plain = sign plain
+closer strong = sign strong
+closer em = sign em
+closer both = sign both
 closer code = []
 
 abbrev bolder : Walk → Walk

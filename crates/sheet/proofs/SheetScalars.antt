@@ -3,7 +3,7 @@
 use Prim.Native.Nat.{ℕ, min}
 use native.Mathlib.Omega.{arith}
 use mathlib.Core.Path.{_≡_, refl}
-use mathlib.Core.Bool.{Bool, true, false, _&&_}
+use mathlib.Core.Bool.{true}
 use mathlib.Core.Logic.{inl}
 use mathlib.Core.List.{List, [], _∷_, _++_, map}
 use Rattle.text.specs.Words.{str, all}
@@ -11,10 +11,10 @@ use Rattle.text.specs.Chars.{is-scalar, is-digit}
 use Rattle.text.specs.Utf8.{Scalars}
 use Rattle.text.proofs.Tests.{within-true}
 use Rattle.text.proofs.Laws.{scalar-is, scalars-true}
-use Rattle.sheet.specs.Tree.{Kind, Run, run, items, Block}
+use Rattle.sheet.specs.Tree.{Run, run, Block}
 use Rattle.sheet.specs.Grammar as G
 use Rattle.sheet.specs.Grammar.{before, Char, Many, stop, more, concat, IsRun, is-run, Line, IsPage}
-use Rattle.sheet.specs.Written.{written-run, written-runs, Row, rows-from, rows, written-row, joined, written-block, written}
+use Rattle.sheet.specs.Written.{written-run, written-runs, Row, rows, written-row, joined, written-block, written}
 use Rattle.sheet.proofs.AllChars.{all-append, Marks, all-run, all-head, all-item}
 use Rattle.sheet.proofs.EachLine.{past, char-kept, run-kept, Entries, Lines, a-heading, a-para, a-list, Each, page-lines}
 use Rattle.sheet.proofs.EachLine as E
@@ -43,11 +43,10 @@ text-scalar (more {s} {m} {x = q} {xs = qs} c ms) h =
 
 runs-texts : {s r : List ℕ} {rs : List Run} → Many IsRun s rs r → Scalars s → Texts rs
 runs-texts stop h = tt
-runs-texts (more (is-run {s} {t} {m} k (G.text cs) f) ms) h =
-    (
-      text-scalar cs (past Scalars rest (before k) s h),
-      runs-texts ms (run-kept Scalars rest (before k ++ s) (run k t) m (is-run k (G.text cs) f) h),
-    )
+runs-texts (more (is-run {s} {t} {m} k (G.text cs) f) ms) h = (
+  text-scalar cs (past Scalars rest (before k) s h),
+  runs-texts ms (run-kept Scalars rest (before k ++ s) (run k t) m (is-run k (G.text cs) f) h),
+)
 
 pub line-texts : (s : List ℕ) (l : List Run) (r : List ℕ) → Line s l r → Scalars s → Texts l
 line-texts s l r (G.line ms f) h = runs-texts ms h

@@ -1,25 +1,23 @@
 -- Every block of a sheet's tree has a record.
 -- Assumes nothing.
-use Prim.Native.Nat.{ℕ, zero, suc, _+_, _*_, _^_, _≤_, _<_, min}
+use Prim.Native.Nat.{ℕ, zero, suc, _+_, _≤_, _<_, min}
 use native.Mathlib.Omega.{arith}
-use mathlib.Core.Path.{_≡_, refl, sym, _∙_, ap, subst}
-use mathlib.Core.Bool.{Bool, true, false, cond, _&&_, _||_}
+use mathlib.Core.Path.{_≡_, refl, sym}
+use mathlib.Core.Bool.{Bool, true, false, _||_}
 use mathlib.Core.List.{List, [], _∷_, _++_, map}
 use borrow.Author.Tests.{le-leb}
-use lib.Dec.{leb, eqb}
 use lib.ListN.{length, length-append, length-map}
-use Rattle.text.specs.Words.{str, repeat, all, is-empty, same}
+use Rattle.text.specs.Words.{str, all, is-empty}
 use Rattle.text.specs.Chars.{is-scalar, is-digit}
-use Rattle.text.specs.Utf8.{Scalars, utf8, size}
+use Rattle.text.specs.Utf8.{Scalars, size}
 use Rattle.text.specs.Decimal.{decimal}
-use Rattle.text.proofs.Laws.{utf8-size, scalars-true}
-use Rattle.html.specs.State.{special}
+use Rattle.text.proofs.Laws.{scalars-true}
 use Rattle.records.specs.Blocks as B
 use Rattle.records.specs.Blocks.{Span}
 use Rattle.records.specs.Format.{non-empty, is-bullet, digits-stop, is-ordinal, is-marker, WfSpan, WfSpans, WfKind, WfBlock, WfBlocks}
-use Rattle.sheet.specs.Tree.{Kind, plain, strong, em, both, code, Run, run, items, Block}
+use Rattle.sheet.specs.Tree.{Kind, plain, strong, em, both, code, Run, run, Block}
 use Rattle.sheet.specs.Grammar.{fits, Line, IsPage}
-use Rattle.sheet.specs.Written.{span, escaped, sign, written-run, written-runs, Row, head, text, item, rows-from, rows, lead, written-row, joined, written-block, written, marker, block-of, blocks-of}
+use Rattle.sheet.specs.Written.{span, written-run, written-runs, Row, item, rows, written-row, joined, written-block, written, marker, block-of, blocks-of}
 use Rattle.sheet.specs.Sound.{and-inv}
 use Rattle.sheet.proofs.Facts.{false-true}
 use Rattle.sheet.proofs.AllChars.{decimal-all, decimal-some}
@@ -42,7 +40,7 @@ line-clean : (s : List ℕ) (l : List Run) (r : List ℕ) → Line s l r → Sca
 line-clean s l r h q = record { fit = good-runs h .fit; texts = line-texts s l r h q }
 
 -- ---- spans
-span-text : (k : Kind) (t : List ℕ) → span (run k t) .text ≡ t
+pub span-text : (k : Kind) (t : List ℕ) → span (run k t) .text ≡ t
 span-text plain t = refl
 span-text strong t = refl
 span-text em t = refl
@@ -58,7 +56,8 @@ wf-span k (c ∷ t) h e l =
     record {
       scalars = rw (span-text k (c ∷ t)) (scalars-true (c ∷ t) h);
       bounded = rw (span-text k (c ∷ t)) (omega arith);
-      shown = span-shown (span (run k (c ∷ t))) c t (span-text k (c ∷ t)) }
+      shown = span-shown (span (run k (c ∷ t))) c t (span-text k (c ∷ t));
+    }
 
 wf-spans : (l : List Run) → all-fit l ≡ true → Texts l → size (written-runs l) < 16000 → WfSpans (map span l)
 unfolding written-runs all-fit

@@ -1,25 +1,23 @@
 -- The characters of a written line: it starts and ends with no space, and has no byte 10.
 -- Assumes nothing.
-use Prim.Native.Nat.{ℕ, zero, suc, _≤_}
+use Prim.Native.Nat.{ℕ}
 use native.Mathlib.Omega.{arith}
-use mathlib.Core.Path.{_≡_, refl, sym, _∙_, ap, subst}
+use mathlib.Core.Path.{_≡_, refl, sym, _∙_, ap}
 use mathlib.Core.Bool.{Bool, true, false, cond, not, _&&_, _||_, or-true}
-use mathlib.Core.List.{List, [], _∷_, _++_, reverse, reverseAux, append-nil, append-assoc, reverseAux-append, reverse-append}
-use lib.Dec.{eqb, leb}
-use lib.ListN.{length, length-reverse}
+use mathlib.Core.List.{List, [], _∷_, _++_, reverseAux, append-nil, reverseAux-append}
+use lib.Dec.{eqb}
 use borrow.Author.Tests.{not-true, ne-eqb, eqb-true}
-use Rattle.text.specs.Words.{str, repeat, all, is-empty}
+use Rattle.text.specs.Words.{all}
 use Rattle.text.specs.Chars.{is-space, is-control, is-digit, is-letter}
-use Rattle.text.specs.Decimal.{decimal}
 use Rattle.text.proofs.Tests.{within-true}
 use Rattle.html.specs.State.{special}
-use Rattle.sheet.specs.Tree.{Kind, plain, strong, em, both, code, Run, run}
+use Rattle.sheet.specs.Tree.{plain, strong, em, both, code, Run, run}
 use Rattle.sheet.specs.Grammar as G
-use Rattle.sheet.specs.Grammar.{shown, Char, Many, stop, more, concat, first-is, last-is, no-blank, first-letter, last-no-blank, neat, apart, IsRun, is-run, Line}
+use Rattle.sheet.specs.Grammar.{shown, Char, Many, stop, more, concat, last-is, no-blank, last-no-blank, IsRun, is-run}
 use Rattle.sheet.specs.Written.{escaped, sign, written-run, written-runs}
 use Rattle.sheet.specs.Sound.{and-inv}
 use Rattle.sheet.proofs.AllChars.{all-append, all-weaker, Marks, all-run}
-use Rattle.sheet.proofs.Facts.{false-true, a-letter, letter-space, letter-special, no-space}
+use Rattle.sheet.proofs.Facts.{false-true, a-letter, letter-special, no-space}
 
 -- ---- a text has no space but 32
 abbrev pub inked : ℕ → Bool
@@ -109,10 +107,10 @@ signed a t o = reverseAux-append a (t ++ a) o ∙ reverseAux-append t a (reverse
 run-ended : {s m : List ℕ} {x : Run} → IsRun s x m → last-no-blank (x ∷ []) ≡ true → (o : List ℕ) → space-first (reverseAux (written-run x) o) ≡ false
 unfolding last-no-blank
 run-ended (is-run {t = t} plain (G.text m) g) f o = ap (λ (x : List ℕ). space-first (reverseAux x o)) (append-nil (escaped t)) ∙ text-ended t o (inked-text m) f
-run-ended (is-run {t = t} strong T g) f o = ap space-first (signed (str "**") (escaped t) o) ∙ star-solid
-run-ended (is-run {t = t} em T g) f o = ap space-first (signed (str "*") (escaped t) o) ∙ star-solid
-run-ended (is-run {t = t} both T g) f o = ap space-first (signed (str "***") (escaped t) o) ∙ star-solid
-run-ended (is-run {t = t} code T g) f o = ap space-first (signed (str "`") (escaped t) o) ∙ tick-solid
+run-ended (is-run {t = t} strong T g) f o = ap space-first (signed (sign strong) (escaped t) o) ∙ star-solid
+run-ended (is-run {t = t} em T g) f o = ap space-first (signed (sign em) (escaped t) o) ∙ star-solid
+run-ended (is-run {t = t} both T g) f o = ap space-first (signed (sign both) (escaped t) o) ∙ star-solid
+run-ended (is-run {t = t} code T g) f o = ap space-first (signed (sign code) (escaped t) o) ∙ tick-solid
 
 ended-step : {s m : List ℕ} (x : Run) (rs : List Run) → IsRun s x m → (last-no-blank rs ≡ true → (o : List ℕ) → space-first (reverseAux (written-runs rs) o) ≡ false)
     → last-no-blank (x ∷ rs) ≡ true → (o : List ℕ) → space-first (reverseAux (written-runs (x ∷ rs)) o) ≡ false

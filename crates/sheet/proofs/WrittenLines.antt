@@ -1,18 +1,15 @@
 -- The lines of a written form are its rows, with an empty line between two blocks.
 -- Assumes nothing.
-use Prim.Native.Nat.{ℕ, zero, suc, _≤_, min}
-use native.Mathlib.Omega.{arith}
+use Prim.Native.Nat.{ℕ, min}
 use mathlib.Core.Path.{_≡_, refl, sym, _∙_, ap}
-use mathlib.Core.Bool.{Bool, true, false, cond, not, _&&_}
+use mathlib.Core.Bool.{Bool, true, false, cond}
 use mathlib.Core.List.{List, [], _∷_, _++_, map, append-assoc}
 use borrow.Author.Tests.{not-true}
 use lib.Dec.{eqb}
 use Rattle.text.specs.Words.{str, repeat, all, is-empty}
-use Rattle.text.specs.Chars.{is-digit}
-use Rattle.text.specs.Decimal.{decimal}
 use Rattle.spans.specs.Spans.{spans}
 use Rattle.markdown.specs.Blocks.{before-lines, lines}
-use Rattle.sheet.specs.Tree.{Run, Mark, Item, alone, with, items, Block, heading, para, list}
+use Rattle.sheet.specs.Tree.{Run, alone, with, items, Block}
 use Rattle.sheet.specs.Grammar as G
 use Rattle.sheet.specs.Grammar.{Many, IsRun, is-run, stop, more, Line}
 use Rattle.sheet.specs.Written.{span, written-runs, Row, head, text, item, place, rows-from, rows, lead, written-row, joined, written-block, written}
@@ -44,7 +41,8 @@ good-runs {l = l} (G.line m f) =
       good = good-of (G.line m f);
       spans-are = line-read l (neat-of l f .parted) (fit-of m);
       no-nl = inline-runs m;
-      fit = fit-of m }
+      fit = fit-of m;
+    }
 
 -- ---- `lines`
 lines-nl : (s t : List ℕ) → all inline s ≡ true → lines (s ++ (10 ∷ t)) ≡ s ∷ lines t
@@ -78,7 +76,8 @@ item-line : (d n : ℕ) (l : List Run) → GoodRuns l → IsLine (written-row (i
 item-line d n l g =
     record {
       filled = filled-append (repeat d "  ") (lead n ++ written-runs l) (filled-append (lead n) (written-runs l) (front-empty (g .good .front)));
-      no-nl = all-item inline inline-marks d n l (g .no-nl) }
+      no-nl = all-item inline inline-marks d n l (g .no-nl);
+    }
 
 head-line : (n : ℕ) (l : List Run) → GoodRuns l → IsLine (written-row (head n l))
 head-line n l g =
