@@ -14,3 +14,4 @@ pub mod SheetReads
 pub mod SheetScalars
 pub mod SheetWf
 pub mod SheetRecords
+pub mod ReadExamples
