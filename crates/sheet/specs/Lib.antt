@@ -5,3 +5,4 @@ pub mod Reader
 pub mod Written
 pub mod Sound
 pub mod Complete
+pub mod Sheet

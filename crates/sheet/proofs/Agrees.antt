@@ -1,0 +1,57 @@
+-- Demand 3: for a page that is a sheet, converting gives its written form, and reading that gives exactly the blocks of its tree.
+-- Assumes nothing.
+use Prim.Native.Nat.{ℕ, _+_, _*_, _≤_, _<_}
+use native.Mathlib.Omega.{arith}
+use mathlib.Core.Path.{_≡_, refl, sym, _∙_, ap}
+use mathlib.Core.List.{List}
+use mathlib.Core.Option.{some}
+use borrow.Author.Tests.{le-ltb}
+use lib.ListN.{length}
+use Rattle.text.specs.Utf8.{size, encode, decode}
+use Rattle.text.specs.Outcome.{Outcome, wrote}
+use Rattle.text.proofs.Laws.{decode-sound, decode-encode, size-encode}
+use Rattle.html.specs.Calls.{html-to-markdown-call}
+use Rattle.records.specs.Format.{encode-blocks}
+use Rattle.markdown.specs.Blocks.{blocks}
+use Rattle.markdown.specs.Calls.{recorded, with-buffers, blocks-call}
+use Rattle.sheet.specs.Tree.{Block}
+use Rattle.sheet.specs.Written.{written, blocks-of}
+use Rattle.sheet.specs.Sheet.{IsSheet}
+use Rattle.sheet.proofs.Converts.{sheet-call}
+use Rattle.sheet.proofs.SheetReads.{sheet-reads}
+use Rattle.sheet.proofs.SheetScalars.{sheet-scalars}
+
+-- the two calls, in buffers that are long enough for them
+pub record Agrees (page : List ℕ) (t : List Block) : Type 0 where
+  pub converts : (work result : ℕ) → 2 * length page + 16384 ≤ work → 32000 ≤ result
+      → html-to-markdown-call page work result ≡ wrote (encode (written t))
+  pub reads : (work result : ℕ) → 6 * length (encode (written t)) ≤ work → length (encode-blocks (blocks-of t)) ≤ result
+      → blocks-call (encode (written t)) work result ≡ wrote (encode-blocks (blocks-of t))
+
+module _ (page : List ℕ) (t : List Block) (sheet : IsSheet page t) where
+  page-bytes : size (sheet .html) ≡ length page
+  page-bytes = sym (size-encode (sheet .html)) ∙ ap length (decode-sound page (sheet .html) (sheet .utf8) .1)
+
+  converted : (work result : ℕ) → 2 * length page + 16384 ≤ work → 32000 ≤ result
+      → html-to-markdown-call page work result ≡ wrote (encode (written t))
+  converted work result a b =
+      let n = page-bytes in
+      sheet-call page work result (sheet .utf8) (sheet .grammar) (sheet .bytes) (sheet .characters) (omega arith) b
+
+  read : (work result : ℕ) → 6 * length (encode (written t)) ≤ work → length (encode-blocks (blocks-of t)) ≤ result
+      → blocks-call (encode (written t)) work result ≡ wrote (encode-blocks (blocks-of t))
+  unfolding blocks-call with-buffers recorded
+  read work result a b =
+      let n = size-encode (written t) in
+      let m = sheet .bytes in
+      let scalars = sheet-scalars (sheet .grammar) (decode-sound page (sheet .html) (sheet .utf8) .0) in
+      rw (
+        le-ltb 65536 (length (encode (written t))) (omega arith),
+        decode-encode (written t) scalars,
+        le-ltb work (6 * length (encode (written t))) a,
+        sheet-reads (sheet .grammar) (sheet .bytes),
+        le-ltb result (length (encode-blocks (blocks-of t))) b,
+      )
+
+  pub sheet-agrees : Agrees page t
+  sheet-agrees = record { converts = converted; reads = read }
