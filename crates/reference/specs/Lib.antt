@@ -1,1 +1,2 @@
 pub mod Unescape
+pub mod Answers

@@ -1,0 +1,6 @@
+pub mod DigitLaws
+pub mod NameLaws
+pub mod AnswerLaws
+pub mod SplitLaws
+pub mod AsciiNames
+pub mod Laws
