@@ -3,4 +3,5 @@ pub mod NameLaws
 pub mod AnswerLaws
 pub mod SplitLaws
 pub mod AsciiNames
+pub mod StepLaws
 pub mod Laws

@@ -12,7 +12,7 @@ use Rattle.text.specs.Words.{index}
 use Rattle.reference.specs.Unescape.{named, reference}
 use Rattle.reference.specs.Answers.{answer}
 use Rattle.reference.proofs.AnswerLaws.{value-some, value-none, found-some, found-none}
-use Rattle.reference.proofs.Laws.{Near, near-none, near-some, near-left, near-replaced}
+use Rattle.reference.proofs.StepLaws.{Near, near-none, near-some, near-left, near-replaced}
 use Rattle.reference.proofs.reference.Statement.{statement}
 use Rattle.reference.proofs.reference.Tie as tie
 
