@@ -3,6 +3,7 @@
 use Prim.Native.Nat.{ℕ, zero, suc, _+_, _*_, _-_, _^_, _≤_, _<_}
 use mathlib.Core.Bool.{Bool, true, false, cond, _&&_, _||_, not}
 use mathlib.Core.List.{List, [], _∷_}
+use mathlib.Core.Logic.{⊎-elim}
 use mathlib.Core.Option.{Option, none, some}
 use mathlib.Core.Path.{_≡_, refl, sym, ap, _∙_}
 use borrow.Author.Tests.{lt-ltb, le-ltb}
@@ -14,8 +15,36 @@ use lib.ListN.{length, getD, drop, drop-of-length-le}
 use lib.Pow.{pow-mono, pow-add}
 use lib.Seq.{drop-cons, drop-drop}
 use Rattle.text.specs.Words.{starts}
+use Rattle.text.specs.Chars.{within}
+use Rattle.text.proofs.Tests.{decide, within-true}
 use Rattle.reference.specs.Unescape.{digit, digits, from-str-radix}
 use Rattle.reference.specs.Answers.{some-digits}
+
+-- ---- one digit
+module _ (c : ℕ) where
+  pub digit-0 : within 48 57 c ≡ true → digit c ≡ c - 48
+  unfolding digit
+  digit-0 e = rw e
+
+  module _ (n : within 48 57 c ≡ false) where
+    pub digit-a : within 97 102 c ≡ true → digit c ≡ c - 87
+    unfolding digit
+    digit-a e = rw (n, e)
+
+    pub digit-A : within 97 102 c ≡ false → within 65 70 c ≡ true → digit c ≡ c - 55
+    unfolding digit
+    digit-A m e = rw (n, m, e)
+
+    pub digit-none : within 97 102 c ≡ false → within 65 70 c ≡ false → digit c ≡ 16
+    unfolding digit
+    digit-none m k = rw (n, m, k)
+
+    pub digit-high : 10 ≤ digit c
+    digit-high =
+        ⊎-elim
+        (λ e. rw (digit-a e) (omega (arith, within-true 97 102 c e)))
+        (λ m. ⊎-elim (λ e. rw (digit-A m e) (omega (arith, within-true 65 70 c e))) (λ k. rw (digit-none m k) (omega arith)) (decide (within 65 70 c)))
+        (decide (within 97 102 c))
 
 -- ---- one digit more
 pub room : (k v radix d : ℕ) → v < 2 ^ (4 * k) → d < radix → radix ≤ 16 → v * radix + d < 2 ^ (4 * (k + 1))

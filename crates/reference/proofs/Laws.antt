@@ -82,7 +82,7 @@ named-long u c e = by (kind u)
     by (other h) = written-long u _ (then-some (written u) plain c (sym (number-written u) ∙ sym (named-other u h) ∙ e) .1)
 
 -- ---- a replaced reference is a name and the first `;`
-pair-is : (a b c d : ℕ) → _≡_ {A = Option (ℕ × ℕ)} (some (a, b)) (some (c, d)) → (a ≡ c) × (b ≡ d)
+pub pair-is : (a b c d : ℕ) → _≡_ {A = Option (ℕ × ℕ)} (some (a, b)) (some (c, d)) → (a ≡ c) × (b ≡ d)
 pair-is a b c d e = (ap (λ o. of o .0) e, ap (λ o. of o .1) e)
   where
     of : Option (ℕ × ℕ) → ℕ × ℕ

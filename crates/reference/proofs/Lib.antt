@@ -5,3 +5,6 @@ pub mod SplitLaws
 pub mod AsciiNames
 pub mod StepLaws
 pub mod Laws
+pub mod StandardNumbers
+pub mod StandardLaws
+pub mod Examples
