@@ -16,7 +16,7 @@ use Rattle.text.specs.Words.{if_then_else_, _>>=_, ensure, case, str, same, sta
 use Rattle.text.specs.Chars.{is-scalar, is-control}
 use Rattle.text.proofs.Tests.{decide, and-true}
 use Rattle.reference.specs.Unescape.{from-str-radix, names, number, named}
-use Rattle.reference.specs.Answers.{written}
+use Rattle.reference.specs.Answers.{is-hexadecimal, written}
 
 -- ---- texts of one length, of which one starts with the other
 eqb-sym : (c d : ℕ) → eqb c d ≡ eqb d c
@@ -41,17 +41,13 @@ module _ (name : List ℕ) where
   unfolding written
   written-none e = rw e
 
-  pub written-x : starts "#" name ≡ true → starts "#x" name ≡ true → written name ≡ from-str-radix 16 (drop 2 name)
+  pub written-hexadecimal : starts "#" name ≡ true → is-hexadecimal name ≡ true → written name ≡ from-str-radix 16 (drop 2 name)
   unfolding written
-  written-x e f = rw (e, f)
+  written-hexadecimal e f = rw (e, f)
 
-  pub written-X : starts "#" name ≡ true → starts "#x" name ≡ false → starts "#X" name ≡ true → written name ≡ from-str-radix 16 (drop 2 name)
+  pub written-decimal : starts "#" name ≡ true → is-hexadecimal name ≡ false → written name ≡ from-str-radix 10 (drop 1 name)
   unfolding written
-  written-X e f g = rw (e, f, g)
-
-  pub written-decimal : starts "#" name ≡ true → starts "#x" name ≡ false → starts "#X" name ≡ false → written name ≡ from-str-radix 10 (drop 1 name)
-  unfolding written
-  written-decimal e f g = rw (e, f, g)
+  written-decimal e f = rw (e, f)
 
 -- a character's number, and no control's
 abbrev pub plain : ℕ → Option ℕ

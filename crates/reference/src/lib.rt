@@ -5,7 +5,7 @@ ghost use lib.ListN.{length, take, drop};
 ghost use Rattle.text.specs.Words.{same};
 ghost use Rattle.text.specs.Utf8.{chars};
 ghost use Rattle.reference.specs.Unescape.{digit, from-str-radix, number, named, reference};
-ghost use Rattle.reference.specs.Answers.{answer, value, some-digits, written};
+ghost use Rattle.reference.specs.Answers.{answer, value, some-digits, is-hexadecimal, written};
 use text::Found;
 
 // What becomes of an `&`.
@@ -70,6 +70,13 @@ fn from_str_radix(s: &[u8], i: usize, radix: u32) -> Value
     some_digits(s, i, radix)
 }
 
+// Whether a name writes a hexadecimal number.
+fn is_hexadecimal(name: &[u8]) -> bool
+    ensures { λ r. ⌜ r ≡ is-hexadecimal (now (name .entry)) ⌝ }
+{
+    text::starts_with(name, 0, b"#x") | text::starts_with(name, 0, b"#X")
+}
+
 // The number that a name writes.
 fn written(name: &[u8]) -> Value
     requires { ⌜ length (now name) ≤ 9 ⌝ }
@@ -78,10 +85,7 @@ fn written(name: &[u8]) -> Value
     if !text::starts_with(name, 0, b"#") {
         return Value::Nothing;
     }
-    if text::starts_with(name, 0, b"#x") {
-        return from_str_radix(name, 2, 16);
-    }
-    if text::starts_with(name, 0, b"#X") {
+    if is_hexadecimal(name) {
         return from_str_radix(name, 2, 16);
     }
     from_str_radix(name, 1, 10)
