@@ -1,22 +1,22 @@
 -- Every name that stands for a character is ASCII, so that it has as many bytes as characters.
 -- Assumes nothing.
-use Prim.Native.Nat.{ℕ, zero, suc, _+_, _*_, _-_, _≤_, _<_}
-use mathlib.Core.Bool.{Bool, true, false, cond, _&&_, _||_, not}
+use Prim.Native.Nat.{ℕ, _+_, _*_, _-_, _≤_, _<_}
+use mathlib.Core.Bool.{Bool, true, false, _||_, not}
 use mathlib.Core.List.{List, [], _∷_, _++_}
-use mathlib.Core.Logic.{_⊎_, inl, inr, ⊎-elim}
+use mathlib.Core.Logic.{_⊎_, ⊎-elim}
 use mathlib.Core.Option.{Option, none, some}
 use mathlib.Core.Path.{_≡_, refl, sym, ap, _∙_, subst}
-use borrow.Author.Tests.{eqb-true, ltb-true, ltb-false, lt-ltb}
+use borrow.Author.Tests.{ltb-true, lt-ltb}
 use native.Mathlib.Omega.{arith}
-use lib.Dec.{eqb, ltb}
+use lib.Dec.{ltb}
 use lib.ListN.{length, drop}
-use Rattle.text.specs.Words.{if_then_else_, _>>=_, ensure, case, is-empty, all, str, same, starts-with, starts}
+use Rattle.text.specs.Words.{if_then_else_, _>>=_, ensure, is-empty, all, str, starts-with, starts}
 use Rattle.text.specs.Chars.{within, is-digit}
-use Rattle.text.specs.Utf8.{chars, encode}
+use Rattle.text.specs.Utf8.{chars}
 use Rattle.text.proofs.Tests.{decide, on, and-true, within-true}
 use Rattle.text.proofs.Laws.{chars-nil, encode-chars}
 use Rattle.text.proofs.AsciiLaws.{Ascii, chars-ascii, encode-ascii}
-use Rattle.reference.specs.Unescape.{digit, digits, from-str-radix, names, number, named}
+use Rattle.reference.specs.Unescape.{digit, digits, from-str-radix, named}
 use Rattle.reference.specs.Answers.{some-digits, written}
 use Rattle.reference.proofs.NameLaws.{Word, amp, lt, gt, quot, apos, nbsp, spelling, Kind, word, other, kind, named-other, plain, number-written, then-some, ensure-some, starts-split}
 use Rattle.reference.proofs.DigitLaws.{from-plus, from-other}

@@ -2,28 +2,26 @@
 -- Assumes nothing.
 use Prim.Native.Nat.{ℕ, zero, suc, _+_, _-_, _≤_, _<_}
 use mathlib.Core.Bool.{Bool, true, false, _&&_, _||_, not}
-use mathlib.Core.List.{List, [], _∷_, _++_, append-assoc}
-use mathlib.Core.Logic.{_⊎_, inl, inr, ⊎-elim}
+use mathlib.Core.List.{List, [], _∷_, _++_, append-assoc, append-nil}
 use mathlib.Core.Option.{Option, none, some}
 use mathlib.Core.Path.{_≡_, refl, sym, ap, _∙_, subst}
-use borrow.Author.Tests.{leb-true, eq-eqb, not-true}
-use native.Mathlib.Numerals.{add-one}
+use borrow.Author.Tests.{leb-true, not-true}
 use native.Mathlib.Omega.{arith}
 use lib.Dec.{leb, eqb}
 use lib.ListN.{length, getD, take, drop, length-append, length-take, length-drop, take-append-drop}
-use lib.Seq.{take-append-add, drop-append-add, drop-drop, drop-cons, take-take, append-snoc}
-use Rattle.text.specs.Words.{if_then_else_, _>>=_, ensure, case, str, is, is-empty, starts-with, starts, index}
+use lib.Seq.{take-append-add, drop-append-add, drop-drop, take-take}
+use Rattle.text.specs.Words.{if_then_else_, _>>=_, case, str, is, starts, index}
 use Rattle.text.specs.Chars.{is-scalar, is-control}
 use Rattle.text.specs.Utf8.{IsScalar, Scalars, utf8, size, chars}
-use Rattle.text.proofs.Tests.{decide, on, and-true}
+use Rattle.text.proofs.Tests.{on, and-true}
 use Rattle.text.proofs.Laws.{scalar-true, utf8-size, advance-ascii}
 use Rattle.text.proofs.AsciiLaws.{Ascii}
-use Rattle.reference.specs.Unescape.{digits, from-str-radix, number, named, reference, unescaped, unescape}
-use Rattle.reference.specs.Answers.{some-digits, written}
-use Rattle.reference.proofs.SplitLaws.{Without, First, missing, here, first, index-missing, index-here, chars-here}
+use Rattle.reference.specs.Unescape.{from-str-radix, names, named, reference, unescaped, unescape}
+use Rattle.reference.specs.Answers.{written}
+use Rattle.reference.proofs.SplitLaws.{Without, First, missing, here, first, chars-here}
 use Rattle.reference.proofs.NameLaws.{Word, amp, lt, gt, quot, apos, nbsp, spelling, meant, Kind, word, other, kind, named-word, named-other, plain, number-written, then-some, ensure-some}
 use Rattle.reference.proofs.AsciiNames.{named-ascii, sized, chars-all}
-use Rattle.reference.proofs.StepLaws.{reference-missing, reference-here, bytes-missing, bytes-here, Near, near-none, near-some}
+use Rattle.reference.proofs.StepLaws.{reference-missing, reference-here, bytes-missing, bytes-here, near-none, near-some}
 
 -- ---- the character is a scalar value and no control
 word-plain : (k : Word) → is-scalar (meant k) && not (is-control (meant k)) ≡ true
@@ -35,7 +33,7 @@ word-plain quot = refl
 word-plain apos = refl
 word-plain nbsp = refl
 
-some-is : {x y : ℕ} → some x ≡ some y → x ≡ y
+pub some-is : {x y : ℕ} → some x ≡ some y → x ≡ y
 some-is e = cc
 
 pub named-plain : (u : List ℕ) (c : ℕ) → named u ≡ some c → IsScalar c × (is-control c ≡ false)
@@ -95,7 +93,7 @@ sized-some u c n e =
     let p = pair-is (t .0) (length u + 1) c n (t .2) in
     (t .1 ∙ ap some (p .0), sym (p .1))
 
-pub record Replaced (s : List ℕ) (c n : ℕ) : Type 0 where
+pub record IsReplaced (s : List ℕ) (c n : ℕ) : Type 0 where
   pub name : List ℕ
   pub after : List ℕ
   pub split : s ≡ name ++ 59 ∷ after
@@ -106,10 +104,10 @@ pub record Replaced (s : List ℕ) (c n : ℕ) : Type 0 where
   pub scalar : IsScalar c
   pub no-control : is-control c ≡ false
 
-pub replaced : (s : List ℕ) (c n : ℕ) → reference s ≡ some (c, n) → Replaced s c n
+pub replaced : (s : List ℕ) (c n : ℕ) → reference s ≡ some (c, n) → IsReplaced s c n
 replaced s c n e = by (first 59 s)
   where
-    by : First 59 s → Replaced s c n
+    by : First 59 s → IsReplaced s c n
     by (missing w) = let i = reference-missing s w in let z : _≡_ {A = ℕ} 0 1 = cc in absurd (omega arith)
     by (here u v w q) =
         let f = ensure-some (leb (1 + size u) 10) (sized u) (c, n) (sym (reference-here u v w) ∙ ap reference (sym q) ∙ e) in
@@ -133,14 +131,14 @@ replaced s c n e = by (first 59 s)
 pub replaced-before : (s : List ℕ) (c n : ℕ) → reference s ≡ some (c, n) → (t : List ℕ) → reference (take n s ++ t) ≡ some (c, n)
 replaced-before s c n e t = by (replaced s c n e)
   where
-    by : Replaced s c n → reference (take n s ++ t) ≡ some (c, n)
+    by : IsReplaced s c n → reference (take n s ++ t) ≡ some (c, n)
     by r =
         let a : take n s ≡ r .name ++ 59 ∷ [] = ap (take n) (r .split) ∙ rw (r .count) (take-append-add (r .name) (59 ∷ r .after) 1) in
         rw (a, append-assoc)
         (reference-here (r .name) t (r .without) ∙ sym (reference-here (r .name) (r .after) (r .without)) ∙ ap reference (sym (r .split)) ∙ e)
 
 -- ---- in bytes: as many as characters, all ASCII, 10 at most
-pub record Read (s : List ℕ) (i c n : ℕ) : Type 0 where
+pub record IsRead (s : List ℕ) (i c n : ℕ) : Type 0 where
   pub low : 3 ≤ n
   pub high : n ≤ 10
   pub bound : i + n ≤ length s
@@ -150,14 +148,14 @@ pub record Read (s : List ℕ) (i c n : ℕ) : Type 0 where
   pub scalar : IsScalar c
   pub no-control : is-control c ≡ false
 
-pub read-is : (s : List ℕ) (i c n : ℕ) → reference (chars (drop i s)) ≡ some (c, n) → Read s i c n
+pub read-is : (s : List ℕ) (i c n : ℕ) → reference (chars (drop i s)) ≡ some (c, n) → IsRead s i c n
 read-is s i c n e = by (first 59 (drop i s))
   where
     snoc : (u : List ℕ) → Ascii u → Ascii (u ++ 59 ∷ [])
     snoc [] h = (omega arith, tt)
     snoc (x ∷ u) h = (h .0, snoc u (h .1))
 
-    by : First 59 (drop i s) → Read s i c n
+    by : First 59 (drop i s) → IsRead s i c n
     by (missing w) = let j = bytes-missing (drop i s) w in let z : _≡_ {A = ℕ} 0 1 = cc in absurd (omega arith)
     by (here u v w q) =
         let f = ensure-some (leb (1 + length u) 10) (sized u) (c, n) (sym (bytes-here u v w) ∙ ap (λ (l : List ℕ). reference (chars l)) (sym q) ∙ e) in
@@ -263,7 +261,7 @@ unescaped-size x s =
     on (λ (p : ℕ × ℕ). length (utf8 (p .0)) + size (drop (p .1) s) ≤ length (utf8 x) + size s) (is "&" x) (λ _. by (reference s) refl)
     (λ _. omega arith)
   where
-    less : (c n : ℕ) → Replaced s c n → length (utf8 c) + size (drop n s) ≤ length (utf8 x) + size s
+    less : (c n : ℕ) → IsReplaced s c n → length (utf8 c) + size (drop n s) ≤ length (utf8 x) + size s
     less c n r =
         let a = utf8-size c in
         let b = utf8-size x in
@@ -288,3 +286,26 @@ unescape-size zero [] = omega arith
 unescape-size (suc n) [] = omega arith
 unescape-size (suc n) (x ∷ s) = unescape-size n s
 unescape-size zero (x ∷ s) = omega (arith, unescaped-size x s, unescape-size (unescaped x s .1) s)
+
+-- ---- what has no `&` is passed over
+pub unescape-run : (u s : List ℕ) → Without 38 u → unescape 0 (u ++ s) ≡ u ++ unescape 0 s
+unescape-run [] s w = refl
+unescape-run (x ∷ u) s w = unescape-other x (u ++ s) (w .0) ∙ ap (λ (l : List ℕ). x ∷ l) (unescape-run u s (w .1))
+
+pub unescape-same : (u : List ℕ) → Without 38 u → unescape 0 u ≡ u
+unescape-same u w = ap (unescape 0) (sym (append-nil u)) ∙ unescape-run u [] w ∙ ap (λ (l : List ℕ). u ++ l) unescape-nil ∙ append-nil u
+
+-- ---- the six names
+pub reference-word : (k : Word) (s : List ℕ) → reference (str (spelling k) ++ 59 ∷ s) ≡ some (meant k, length (str (spelling k)) + 1)
+unfolding reference index named names size utf8
+reference-word amp s = refl
+reference-word lt s = refl
+reference-word gt s = refl
+reference-word quot s = refl
+reference-word apos s = refl
+reference-word nbsp s = refl
+
+pub unescape-word : (k : Word) (s : List ℕ) → unescape 0 (38 ∷ str (spelling k) ++ 59 ∷ s) ≡ meant k ∷ unescape 0 s
+unescape-word k s =
+    unescape-replaced (str (spelling k) ++ 59 ∷ s) (meant k) (length (str (spelling k)) + 1) (reference-word k s)
+    ∙ ap (λ (l : List ℕ). meant k ∷ unescape 0 l) (drop-append-add (str (spelling k)) (59 ∷ s) 1)

@@ -1,13 +1,13 @@
 -- The laws of names: what each test on the way of `named` says.
 -- Assumes nothing.
-use Prim.Native.Nat.{ℕ, zero, suc}
+use Prim.Native.Nat.{ℕ}
 use Prim.Native.Char.{Char, code}
 use Prim.Native.String.{String}
-use mathlib.Core.Bool.{Bool, true, false, cond, _&&_, _||_, not}
+use mathlib.Core.Bool.{Bool, true, false, _&&_, _||_, not}
 use mathlib.Core.List.{List, [], _∷_, _++_}
-use mathlib.Core.Logic.{_⊎_, inl, inr, ⊎-elim}
+use mathlib.Core.Logic.{_⊎_, ⊎-elim}
 use mathlib.Core.Option.{Option, none, some}
-use mathlib.Core.Path.{_≡_, refl, sym, ap, _∙_}
+use mathlib.Core.Path.{_≡_, refl, sym, _∙_}
 use borrow.Author.Tests.{eqb-true, eqb-false, eq-eqb, ne-eqb}
 use native.Mathlib.Omega.{arith}
 use lib.Dec.{eqb, eqb·zero-suc, eqb·suc-zero, eqb·suc-suc}
@@ -89,9 +89,13 @@ module _ (p : String) (d : Char) (rows : List (String × Char)) (name : List ℕ
   pub miss : same (str p) name ≡ false → among ((p, d) ∷ rows) name ≡ among rows name
   miss e = rw e
 
-pub named-among : (name : List ℕ) → named name ≡ among names name
+-- a name that is none of the first k
+abbrev pub Past : ℕ → List ℕ → Type 0
+Past k name = named name ≡ among (drop k names) name
+
+pub past-none : (name : List ℕ) → Past 0 name
 unfolding named
-named-among name = refl
+past-none name = refl
 
 -- ---- steps that may fail, and did not
 pub then-some : {A B : Type 0} (o : Option A) (f : A → Option B) (b : B) → o >>= f ≡ some b → (a : A) × (o ≡ some a) × (f a ≡ some b)

@@ -1,17 +1,17 @@
 -- The reference step and the HTML standard (specs/Standard.antt): where the two agree, and everything that they differ in.
 -- Assumes nothing.
-use Prim.Native.Nat.{ℕ, zero, suc, _+_, _-_, _*_, _≤_, _<_}
-use mathlib.Core.Bool.{Bool, true, false, cond, _&&_, _||_, not}
+use Prim.Native.Nat.{ℕ, _+_, _-_, _≤_, _<_}
+use mathlib.Core.Bool.{Bool, true, false, _||_, not}
 use mathlib.Core.List.{List, [], _∷_, _++_}
-use mathlib.Core.Logic.{_⊎_, inl, inr, ⊎-elim, _↔_}
+use mathlib.Core.Logic.{_⊎_, ⊎-elim, _↔_}
 use mathlib.Core.Option.{Option, none, some}
-use mathlib.Core.Path.{_≡_, refl, sym, ap, _∙_, subst}
+use mathlib.Core.Path.{_≡_, refl, sym, ap, _∙_}
 use borrow.Author.Tests.{leb-true, leb-false, lt-ltb, le-ltb, ltb-true, eqb-true}
 use native.Mathlib.Omega.{arith}
 use lib.Dec.{leb, ltb, eqb}
-use lib.ListN.{length, take, drop}
+use lib.ListN.{length}
 use lib.Seq.{take-append-seam}
-use Rattle.text.specs.Words.{if_then_else_, _>>=_, ensure, case, str, is, any, same, starts-with, starts, index, lookup}
+use Rattle.text.specs.Words.{if_then_else_, _>>=_, ensure, case, str, is, any, same, starts-with, index}
 use Rattle.text.specs.Chars.{within, is-control}
 use Rattle.text.specs.Utf8.{utf8, size}
 use Rattle.text.proofs.Tests.{decide, and-true, or-elim, or-right, within-true, within-is}
@@ -19,11 +19,10 @@ use Rattle.reference.specs.Unescape.{names, number, named, reference}
 use Rattle.reference.specs.Answers.{written}
 use Rattle.reference.specs.Standard.{end-state, numeric, entities, standard-named, standard, name-of, far, no-number, refused, signed, unsigned, own}
 use Rattle.reference.proofs.SplitLaws.{Without, First, missing, here, first, index-missing, index-here}
-use Rattle.reference.proofs.NameLaws.{Word, amp, lt, gt, quot, apos, nbsp, spelling, meant, Other, Kind, word, other, kind, same-true, named-word, named-other, plain, number-written, then-some, ensure-some}
-use Rattle.reference.proofs.AsciiNames.{sized}
-use Rattle.reference.proofs.StepLaws.{reference-missing, reference-here}
-use Rattle.reference.proofs.Laws.{pair-is, Replaced, replaced}
-use Rattle.reference.proofs.StandardNumbers.{zero-control, Number, number-yes, plain-is, Signs, signs}
+use Rattle.reference.proofs.NameLaws.{Word, amp, lt, gt, quot, apos, nbsp, spelling, meant, Other, Kind, word, other, kind, same-true, named-word, named-other, plain, number-written, then-some}
+use Rattle.reference.proofs.StepLaws.{reference-here}
+use Rattle.reference.proofs.Laws.{some-is, pair-is, reference-word, IsReplaced, replaced}
+use Rattle.reference.proofs.StandardNumbers.{zero-control, number-yes, plain-is, signs}
 
 -- ---- both, by what stands before the first `;`
 standard-missing : (s : List ℕ) → Without 59 s → standard s ≡ none
@@ -85,9 +84,6 @@ own-word gt = refl
 own-word quot = refl
 own-word apos = refl
 own-word nbsp = refl
-
-some-is : {x y : ℕ} → some x ≡ some y → x ≡ y
-some-is e = cc
 
 -- a number that the standard reads, we read too
 pub written-numeric : (u : List ℕ) (v : ℕ) → numeric u ≡ some v → written u ≡ some v
@@ -226,10 +222,10 @@ standard-of u c e n p = by (kind u)
         let r : numeric u ≡ some (t .0) = sym (signs u .without p) ∙ t .1 in
         entity-other u h ∙ rw r (ap some (number-yes (t .0) (k .0) .stays ∙ k .1))
 
-name-is : (s : List ℕ) (c n : ℕ) (r : Replaced s c n) → name-of s ≡ r .name
+name-is : (s : List ℕ) (c n : ℕ) (r : IsReplaced s c n) → name-of s ≡ r .name
 name-is s c n r = ap name-of (r .split) ∙ name-here (r .name) (r .after) (r .without)
 
-counted-is : (s : List ℕ) (c n : ℕ) (r : Replaced s c n) (d : ℕ) → standard-named (r .name) ≡ some d → standard s ≡ some (d, n)
+counted-is : (s : List ℕ) (c n : ℕ) (r : IsReplaced s c n) (d : ℕ) → standard-named (r .name) ≡ some d → standard s ≡ some (d, n)
 counted-is s c n r d e =
     ap standard (r .split) ∙ standard-here (r .name) (r .after) (r .without) ∙ rw (e) (ap (λ (k : ℕ). some (d, k)) (sym (r .count)))
 
@@ -313,6 +309,6 @@ signed-named u t =
     by (some v) = plain-is v
 
 -- nbsp is 32 here, and 160 in the standard
-pub nbsp-differs : (v : List ℕ) → (reference (str "nbsp;" ++ v) ≡ some (32, 5)) × (standard (str "nbsp;" ++ v) ≡ some (160, 5))
-unfolding reference standard index named names size utf8
-nbsp-differs v = (refl, refl)
+pub nbsp-differs : (v : List ℕ) → (reference (str "nbsp" ++ 59 ∷ v) ≡ some (32, 5)) × (standard (str "nbsp" ++ 59 ∷ v) ≡ some (160, 5))
+unfolding standard index
+nbsp-differs v = (reference-word nbsp v, refl)

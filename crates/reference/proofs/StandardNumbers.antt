@@ -1,30 +1,24 @@
 -- The numbers that a name writes, here and by the HTML standard: which of them are characters, what digits add up to, and the `+`.
 -- Assumes nothing.
-use Prim.Native.Nat.{ℕ, zero, suc, _+_, _-_, _*_, _≤_, _<_}
-use mathlib.Core.Bool.{Bool, true, false, cond, _&&_, _||_, not}
-use mathlib.Core.List.{List, [], _∷_, _++_}
-use mathlib.Core.Logic.{_⊎_, inl, inr, ⊎-elim, _↔_}
+use Prim.Native.Nat.{ℕ, _+_, _-_, _*_, _≤_, _<_}
+use mathlib.Core.Bool.{Bool, true, false, _&&_, _||_, not}
+use mathlib.Core.List.{List, [], _∷_}
+use mathlib.Core.Logic.{_⊎_, inl, inr, ⊎-elim}
 use mathlib.Core.Option.{Option, none, some}
-use mathlib.Core.Path.{_≡_, refl, sym, ap, _∙_, subst}
-use borrow.Author.Tests.{leb-true, leb-false, le-leb, lt-leb, ltb-true, ltb-false, lt-ltb, le-ltb, eqb-true, eqb-false, ne-eqb, not-true}
+use mathlib.Core.Path.{_≡_, refl, sym, ap, _∙_}
+use borrow.Author.Tests.{leb-true, leb-false, le-leb, lt-leb, ltb-true, ltb-false, lt-ltb, le-ltb, eqb-true}
 use native.Mathlib.Omega.{arith}
 use lib.Dec.{leb, ltb, eqb}
-use lib.ListN.{length, take, drop}
-use lib.Seq.{take-append-seam}
-use Rattle.text.specs.Words.{if_then_else_, _>>=_, ensure, case, str, is, is-empty, any, same, starts-with, starts, index, lookup}
-use Rattle.text.specs.Chars.{within, is-digit, is-scalar, is-control}
-use Rattle.text.specs.Utf8.{size}
-use Rattle.text.proofs.Tests.{decide, on, and-true, and-false, or-elim, within-true, within-is, within-below, within-above}
+use lib.ListN.{drop}
+use Rattle.text.specs.Words.{if_then_else_, _>>=_, ensure, str, is, starts-with, starts}
+use Rattle.text.specs.Chars.{within, is-scalar, is-control}
+use Rattle.text.proofs.Tests.{decide, on, and-true, and-false, or-elim, within-true, within-is, within-below}
 use Rattle.text.proofs.Laws.{scalar-is}
-use Rattle.reference.specs.Unescape.{digit, digits, from-str-radix, names, number, named, reference}
+use Rattle.reference.specs.Unescape.{digit, digits, from-str-radix}
 use Rattle.reference.specs.Answers.{some-digits, written}
-use Rattle.reference.specs.Standard.{table, row, end-state, decimal-digit, hexadecimal-digit, add-digits, decimal, hexadecimal, numeric, entities, standard-named, standard, name-of, far, no-number, refused, signed, unsigned, own}
-use Rattle.reference.proofs.SplitLaws.{Without, First, missing, here, first, index-missing, index-here}
-use Rattle.reference.proofs.NameLaws.{Word, amp, lt, gt, quot, apos, nbsp, spelling, meant, Other, Kind, word, other, kind, named-word, named-other, plain, number-written, then-some, ensure-some, starts-split}
+use Rattle.reference.specs.Standard.{table, row, end-state, decimal-digit, hexadecimal-digit, add-digits, decimal, hexadecimal, numeric, no-number, signed, unsigned}
+use Rattle.reference.proofs.NameLaws.{plain, starts-split}
 use Rattle.reference.proofs.DigitLaws.{digit-0, digit-a, digit-A, digit-none, digit-high, from-plus, from-other}
-use Rattle.reference.proofs.AsciiNames.{sized}
-use Rattle.reference.proofs.StepLaws.{reference-missing, reference-here}
-use Rattle.reference.proofs.Laws.{Replaced, replaced}
 
 -- ---- numbers
 -- every number of the table is a control's

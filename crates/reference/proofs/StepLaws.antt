@@ -1,28 +1,22 @@
 -- The laws of the reference step: what stands before the first `;`, in characters and in bytes.
 -- Assumes nothing.
-use Prim.Native.Nat.{ℕ, zero, suc, _+_, _-_, _≤_, _<_}
-use mathlib.Core.Bool.{Bool, true, false, cond, _&&_, not}
+use Prim.Native.Nat.{ℕ, suc, _+_, _-_, _≤_, _<_}
 use mathlib.Core.List.{List, [], _∷_, _++_, append-assoc}
-use mathlib.Core.Logic.{_⊎_, inl, inr, ⊎-elim}
-use mathlib.Core.Option.{Option, none, some}
-use mathlib.Core.Path.{_≡_, refl, sym, ap, _∙_, subst}
-use borrow.Author.Tests.{leb-true, leb-false, le-leb, lt-leb, eq-eqb, ne-eqb, not-true}
-use native.Mathlib.Numerals.{add-one}
+use mathlib.Core.Logic.{_⊎_, ⊎-elim}
+use mathlib.Core.Option.{none, some}
+use mathlib.Core.Path.{_≡_, refl, sym, ap, _∙_}
+use borrow.Author.Tests.{leb-true, le-leb}
 use native.Mathlib.Omega.{arith}
-use lib.Dec.{leb, eqb}
-use lib.ListN.{length, getD, take, drop, length-append, length-take, length-drop, take-append-drop}
-use lib.Seq.{take-append-seam, take-append-add, drop-append-seam, drop-drop, take-all, drop-append-add}
-use Rattle.text.specs.Words.{if_then_else_, _>>=_, ensure, case, is, index, find}
-use Rattle.text.specs.Chars.{is-scalar, is-control}
-use Rattle.text.specs.Utf8.{IsScalar, utf8, encode, size, chars}
-use Rattle.text.proofs.Tests.{decide, and-true}
-use Rattle.text.proofs.Laws.{scalar-true, encode-chars, advance-ascii}
-use Rattle.text.proofs.AsciiLaws.{Ascii}
-use Rattle.reference.specs.Unescape.{number, named, reference, unescaped, unescape}
-use Rattle.reference.specs.Answers.{written}
+use lib.Dec.{leb}
+use lib.ListN.{length, take, drop, length-append, length-take, take-append-drop}
+use lib.Seq.{take-append-seam, take-append-add}
+use Rattle.text.specs.Words.{_>>=_, ensure, index}
+use Rattle.text.specs.Utf8.{utf8, encode, size, chars}
+use Rattle.text.proofs.Tests.{decide}
+use Rattle.text.proofs.Laws.{encode-chars}
+use Rattle.reference.specs.Unescape.{named, reference}
 use Rattle.reference.proofs.SplitLaws.{Without, First, missing, here, first, index-missing, index-here, chars-without, chars-here}
-use Rattle.reference.proofs.NameLaws.{Word, amp, lt, gt, quot, apos, nbsp, spelling, meant, Kind, word, other, kind, named-word, named-other, plain, number-written, then-some, ensure-some}
-use Rattle.reference.proofs.AsciiNames.{named-ascii, sized, sized-chars, chars-all}
+use Rattle.reference.proofs.AsciiNames.{sized, sized-chars}
 
 -- ---- the step, by what stands before the first `;`
 pub reference-missing : (s : List ℕ) → Without 59 s → reference s ≡ none

@@ -1,8 +1,7 @@
 -- `reference::from_str_radix` meets its contract.
 -- Assumes nothing.
 use borrow.Author.Needs.{needs}
-use native.Mathlib.Omega.{arith}
-use mathlib.Core.Path.{_≡_, refl, sym, ap, _∙_}
+use mathlib.Core.Path.{sym, ap, _∙_}
 use Rattle.reference.specs.Answers.{value}
 use Rattle.reference.proofs.DigitLaws.{from-plus, from-other}
 use Rattle.reference.proofs.from_str_radix.Statement.{statement}

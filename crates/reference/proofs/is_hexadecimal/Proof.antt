@@ -1,7 +1,5 @@
 -- `reference::is_hexadecimal` meets its contract.
 -- Assumes nothing.
-use mathlib.Core.Path.{_≡_, refl, sym, ap, _∙_}
-use mathlib.Core.Bool.{_||_}
 use borrow.Author.Needs.{needs}
 use Rattle.reference.proofs.is_hexadecimal.Statement.{statement}
 use Rattle.reference.proofs.is_hexadecimal.Tie as tie

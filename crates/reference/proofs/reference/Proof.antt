@@ -1,15 +1,13 @@
 -- `reference::reference` meets its contract.
 -- Assumes nothing.
 use borrow.Author.Needs.{needs}
-use Prim.Native.Nat.{ℕ, _+_, _≤_, _<_}
+use Prim.Native.Nat.{ℕ}
 use native.Mathlib.Omega.{arith}
 use mathlib.Core.List.{List, [], _∷_}
-use mathlib.Core.Option.{none, some}
-use mathlib.Core.Path.{_≡_, refl, sym, ap, _∙_}
-use lib.ListN.{length, take, drop, length-take}
-use lib.Seq.{length-take-le}
+use mathlib.Core.Path.{sym, ap, _∙_}
+use lib.ListN.{take, drop}
 use Rattle.text.specs.Words.{index}
-use Rattle.reference.specs.Unescape.{named, reference}
+use Rattle.reference.specs.Unescape.{named}
 use Rattle.reference.specs.Answers.{answer}
 use Rattle.reference.proofs.AnswerLaws.{value-some, value-none, found-some, found-none}
 use Rattle.reference.proofs.StepLaws.{Near, near-none, near-some, near-left, near-replaced}

@@ -1,9 +1,5 @@
 -- `reference::same` meets its contract.
 -- Assumes nothing.
-use mathlib.Core.Path.{_≡_, refl, sym, ap, _∙_}
-use mathlib.Core.Bool.{_&&_}
-use lib.Dec.{eqb}
-use lib.ListN.{length}
 use Rattle.reference.proofs.NameLaws.{same-is}
 use borrow.Author.Needs.{needs}
 use Rattle.reference.proofs.same.Statement.{statement}

@@ -3,8 +3,8 @@
 -- Assumes nothing.
 use native.Mathlib.Omega.{arith}
 use mathlib.Core.Path.{_≡_, refl, sym, ap, _∙_}
-use Prim.Native.Nat.{ℕ, _+_, _*_, _≤_, _<_, _-_, _^_}
-use lib.ListN.{length, drop, getD}
+use Prim.Native.Nat.{_+_, _*_, _≤_, _<_, _-_, _^_}
+use lib.ListN.{length, drop}
 use Rattle.reference.specs.Unescape.{digit, digits}
 use Rattle.reference.specs.Answers.{value}
 use Rattle.reference.proofs.DigitLaws.{room-next, fits, digits-next, digits-stop, digits-end, no-digits, more-digits}

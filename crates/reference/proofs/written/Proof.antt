@@ -1,7 +1,7 @@
 -- `reference::written` meets its contract.
 -- Assumes nothing.
 use borrow.Author.Tests.{not-true, not-false}
-use mathlib.Core.Path.{_≡_, refl, sym, ap, _∙_}
+use mathlib.Core.Path.{sym, ap, _∙_}
 use Rattle.reference.specs.Answers.{value}
 use Rattle.reference.proofs.NameLaws.{written-none, written-hexadecimal, written-decimal}
 use borrow.Author.Needs.{needs}
