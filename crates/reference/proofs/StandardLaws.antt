@@ -13,7 +13,7 @@ use lib.ListN.{length}
 use lib.Seq.{take-append-seam}
 use Rattle.text.specs.Words.{if_then_else_, _>>=_, ensure, case, str, is, any, same, starts-with, index}
 use Rattle.text.specs.Chars.{within, is-control}
-use Rattle.text.specs.Utf8.{utf8, size}
+use Rattle.text.specs.Utf8.{size}
 use Rattle.text.proofs.Tests.{decide, and-true, or-elim, or-right, within-true, within-is}
 use Rattle.reference.specs.Unescape.{names, number, named, reference}
 use Rattle.reference.specs.Answers.{written}
