@@ -1,1 +1,3 @@
 pub mod Unescape
+pub mod Answers
+pub mod Standard

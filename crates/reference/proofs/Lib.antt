@@ -1,0 +1,10 @@
+pub mod DigitLaws
+pub mod NameLaws
+pub mod AnswerLaws
+pub mod SplitLaws
+pub mod AsciiNames
+pub mod StepLaws
+pub mod Laws
+pub mod StandardNumbers
+pub mod StandardLaws
+pub mod Examples
