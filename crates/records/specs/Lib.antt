@@ -1,2 +1,6 @@
 pub mod Blocks
 pub mod Format
+pub mod Decode
+pub mod Answers
+pub mod Readers
+pub mod Numbers

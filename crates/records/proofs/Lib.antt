@@ -1,0 +1,9 @@
+pub mod TextMore
+pub mod Front
+pub mod Markers
+pub mod Encoded
+pub mod Decoded
+pub mod Spans
+pub mod Heads
+pub mod Blocks
+pub mod WalkerLaws
