@@ -7,3 +7,4 @@ pub mod Spans
 pub mod Heads
 pub mod Blocks
 pub mod WalkerLaws
+pub mod Stores
