@@ -131,20 +131,3 @@ block-at-of b s w =
       count-at-of xs (encode-spans xs ++ s) (w .bounded),
       spans-at-of xs s (w .spans),
     )
-
-not-empty : (b : Block) (s : List ℕ) → [] ≡ encode-block b ++ s → ⊥
-unfolding encode-block
-not-empty b s e = let z : _≡_ {A = ℕ} 0 1 = cc in omega arith
-
--- one record string has one list of blocks
-pub blocks-one : (bs cs : List Block) → WfBlocks bs → WfBlocks cs → encode-blocks bs ≡ encode-blocks cs → bs ≡ cs
-unfolding encode-blocks
-blocks-one [] [] v w e = refl
-blocks-one [] (c ∷ cs) v w e = absurd (not-empty c (encode-blocks cs) e)
-blocks-one (b ∷ bs) [] v w e = absurd (not-empty b (encode-blocks bs) (sym e))
-blocks-one (b ∷ bs) (c ∷ cs) v w e =
-    let p : parsed b (encode-blocks bs) ≡ parsed c (encode-blocks cs) = sym (block-at-of b (encode-blocks bs) (v .0)) ∙ ap block-at e ∙ block-at-of c (encode-blocks cs) (w .0) in
-    let q : b ≡ c = cc in
-    let t : encode-blocks bs ≡ encode-blocks cs = cc in
-    let r : bs ≡ cs = blocks-one bs cs (v .1) (w .1) t in
-    cc

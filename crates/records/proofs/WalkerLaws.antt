@@ -32,7 +32,7 @@ use Rattle.records.proofs.Spans.{rest-next}
 use Rattle.records.proofs.Decoded.{not-failed, then-inv}
 use Rattle.records.proofs.Blocks.{spans-count}
 
-nothing-there : block-at [] ≡ failed
+pub nothing-there : block-at [] ≡ failed
 unfolding block-at head-at
 nothing-there = refl
 

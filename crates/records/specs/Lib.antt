@@ -4,3 +4,4 @@ pub mod Decode
 pub mod Answers
 pub mod Readers
 pub mod Numbers
+pub mod Walk
