@@ -11,3 +11,5 @@ pub mod Blocks
 pub mod WalkerLaws
 pub mod Walked
 pub mod Stores
+pub mod Held
+pub mod Examples

@@ -187,11 +187,11 @@ pub struct Walker<'a> {
 }
 
 impl<'a> Walker<'a> {
-    // At the first block.
-    pub fn new(records: &'a [u8]) -> Walker<'a>
-        ensures { λ r. ⌜ (r .records ≡ records .entry) × (r .at ≡ 0) ⌝ }
+    // At an offset; 0 is that of the first block.
+    pub fn new(records: &'a [u8], at: usize) -> Walker<'a>
+        ensures { λ r. ⌜ (r .records ≡ records .entry) × (r .at ≡ at) ⌝ }
     {
-        Walker { records, at: 0 }
+        Walker { records, at }
     }
 
     // The block at the offset.
@@ -214,14 +214,11 @@ impl<'a> Walker<'a> {
     {
         text_at(self.records, self.at, n)
     }
+}
 
-    // At another offset.
-    pub fn moved(self, at: usize) -> Walker<'a>
-        ensures { λ r. ⌜ (r .records ≡ self .entry .records) × (r .at ≡ at) ⌝ }
-    {
-        Walker {
-            records: self.records,
-            at,
-        }
-    }
+// The block at an offset, through the struct: a caller needs the records and a number alone.
+pub fn walk(records: &[u8], at: usize) -> BlockAnswer
+    ensures { λ r. ⌜ block-values r ≡ block-answer (now (records .entry)) at ⌝ }
+{
+    Walker::new(records, at).block()
 }

@@ -46,6 +46,7 @@ use denote.Triple.Clauses.{ensured, lasts}
 use Rattle.records.specs.Answers.{Answer, BlockValues, block-answer}
 use Rattle.records.specs.Numbers.{block-values}
 use Rattle.records.specs.declared.walker.Walker.{Walker}
+use Rattle.records.proofs.Held.{B, R, mach, slice, Own, Lent, lends}
 use Rattle.records.specs.declared.walker.BlockAnswer.{BlockAnswer}
 use Rattle.records.proofs.walker.Walker as T
 use Rattle.records.proofs.walker.Walker.Laws as T′
@@ -60,10 +61,6 @@ use Rattle.records.proofs.walker.Walker.block as block
 use Rattle.records.proofs.walker.Walker.block.Statement as stated
 use Rattle.records.proofs.walker.Walker.block.Code as code
 
--- the struct's type, over the signature's lifetimes
-abbrev B : Lfts 1 → RattleType
-B κs = T.the-row (namedLft 1 0 tt κs)
-
 abbrev stayed : Stays (block.ended .signature .params) (block.ended .kept)
 stayed = (stay-none B yes, tt)
 
@@ -73,70 +70,49 @@ module _ {M : Type 1} (𝓤 : URA M) (H : Heap 𝓤) (A : Atoms 𝓤) (mem : Mem
   BlockAt = tripleOf 𝓤 H A block-at.signature (block-at.spec 𝓤 H A mem run)
 
 module _ {M : Type 1} (𝓤 : URA M) (H : Heap 𝓤) (A : Atoms 𝓤) (W : Given 𝓤 H A) (mem : Memory → SProp 𝓤) (run : Routine → Fun 𝓤) (κ : Lft) (q : Share) (d : Walker) where
-  abbrev mach : Val
-  mach = T′.lowered d
-
-  -- the machine value of records
-  abbrev v : Val
-  v = sliceVal (d .records .ptr) (length (d .records .now))
-
   abbrev found : Answer BlockValues
   found = block-answer (now (d .records)) (d .at)
 
   abbrev Post : Val → SProp 𝓤
-  Post = walkOf 𝓤 H A block.ended stayed (block.clauses 𝓤 H A mem run) .post (((κ, tt), (q, tt), tt, (d, tt), (mach ∷ [], tt)), tt)
-
-  abbrev Own : Fml
-  Own = B (κ, tt) .own d (mach ∷ [])
-
-  -- the struct's type and laws, and d's fields' values
-  abbrev D : Declared
-  D = T.the-type (namedLft 1 0 tt (κ, tt))
-
-  abbrev L : LL.Laws D
-  L = T′.the-laws (namedLft 1 0 tt (κ, tt))
-
-  abbrev vd : Values (D .parts)
-  vd = (d .records, (d .at, tt))
+  Post = walkOf 𝓤 H A block.ended stayed (block.clauses 𝓤 H A mem run) .post (((κ, tt), (q, tt), tt, (d, tt), (mach d ∷ [], tt)), tt)
 
   -- what the callee is passed
   abbrev passed : Vals block-at.signature (κ, tt)
-  passed = (v ∷ [], (vint w64 (d .at) ∷ [], tt))
+  passed = (slice (d .records) ∷ [], (vint w64 (d .at) ∷ [], tt))
 
   abbrev to : BlockAt 𝓤 H A mem run .Ghost
   to = (((κ, tt), (q, tt), tt, (d .records, (d .at, tt)), passed), tt)
 
   asked : ent 𝓤 (onEntry 𝓤 H A block-at.signature (κ, tt) (q, tt) (d .records, (d .at, tt)) passed) (BlockAt 𝓤 H A mem run .pre to)
-  asked = qed W ((‵ (flft κ q) ⊛ ‵ ftrue) ∷ ‵ (owns (ShrSlice (named 0) κ u8 ∷ usize ∷ []) (d .records, (d .at, tt)) passed) ∷ []) ∵ join ! $ frame ! $ done !
+  asked = qed W ((‵ (flft κ q) ⊛ ‵ ftrue) ∷ ‵ (owns (R κ ∷ usize ∷ []) (d .records, (d .at, tt)) passed) ∷ []) ∵ join ! $ frame ! $ done !
 
   -- what the struct owns gives what the callee asks, and is kept
-  apart : d .at < 2 ^ 64 → ent 𝓤 (onEntry 𝓤 H A block.signature (κ, tt) (q, tt) (d, tt) (mach ∷ [], tt)) (sep 𝓤 (BlockAt 𝓤 H A mem run .pre to) (sem 𝓤 H A Own))
+  apart : d .at < 2 ^ 64 → ent 𝓤 (onEntry 𝓤 H A block.signature (κ, tt) (q, tt) (d, tt) (mach d ∷ [], tt)) (sep 𝓤 (BlockAt 𝓤 H A mem run .pre to) (sem 𝓤 H A (Own κ d)))
   apart fits =
-      qed W ((‵ (flft κ q) ⊛ ‵ ftrue) ∷ ‵ (owns (B (κ, tt) ∷ []) (d, tt) (mach ∷ [], tt)) ∷ []) ∵
-      move ! (1 ∷ []) $ fsplit ! $ move ! (1 ∷ []) $ drop ! $ use1 W (‵ Own ⊛ ‵ Own) (LL.copy D (T′.the-copy (namedLft 1 0 tt (κ, tt))) 𝓤 H A W .twice d (mach ∷ [])) $ split ! $
-      use1 W (given (mach ∷ [] ≡ mach ∷ []) (‵ (all-own (D .parts) L vd))) (own-open 𝓤 H A W D L vd mach) $ learn ! (λ _. use1 W (‵ (ownAt (D .parts) L 0 (d .records)) ⊛ ‵ (rest (D .parts) L 0 vd)) (own-out 𝓤 H A W (D .parts) L 0 vd) $ split ! $
-      -- [what records owns; what at owns; what the struct owns; the token]
-      move ! (1 ∷ []) $ drop ! $ nothing ! $ owned ! usize (Is usize) (uint-makes 𝓤 H A W w64) (d .at) _ (refl, fits) $ fjoin ! $ move ! (1 ∷ 0 ∷ []) $ fjoin ! $
-      move ! (2 ∷ 0 ∷ []) $ use2 W (raw (BlockAt 𝓤 H A mem run .pre to)) asked $ frame ! $ done !)
+      qed W ((‵ (flft κ q) ⊛ ‵ ftrue) ∷ ‵ (owns (B (κ, tt) ∷ []) (d, tt) (mach d ∷ [], tt)) ∷ []) ∵
+      move ! (1 ∷ []) $ fsplit ! $ move ! (1 ∷ []) $ drop ! $ use1 W (‵ (Lent κ (d .records)) ⊛ ‵ (Own κ d)) (lends 𝓤 H A W κ d) $ split ! $
+      -- [what records owns; what the struct owns; the token]
+      nothing ! $ owned ! usize (Is usize) (uint-makes 𝓤 H A W w64) (d .at) _ (refl, fits) $ fjoin ! $ move ! (1 ∷ 0 ∷ []) $ fjoin ! $
+      move ! (2 ∷ 0 ∷ []) $ use2 W (raw (BlockAt 𝓤 H A mem run .pre to)) asked $ frame ! $ done !
 
   -- of the callee's `ensured`, the clause alone: it has no `&mut`, so what is said of last values is dropped
   said : (r : BlockAnswer) → ent 𝓤 (ensured 𝓤 H A block-at.ended (block-at.clauses 𝓤 H A mem run) (κ, tt) (d .records, (d .at, tt)) tt r) (fact 𝓤 (block-values r ≡ found))
   said r = exE 𝓤 _ (λ ws. snd∗ 𝓤 (sem 𝓤 H A (lasts block-at.ended (κ, tt) (d .records, (d .at, tt)) ws)) (fact 𝓤 (block-values r ≡ found)))
 
-  exits : (r : BlockAnswer) (u : Val) → block-values r ≡ found → ent 𝓤 (⋆ 𝓤 H A (‵ (S.the-row .own r (u ∷ [])) ∷ (‵ (flft κ q) ⊛ ‵ ftrue) ∷ ‵ Own ∷ [])) (Post u)
+  exits : (r : BlockAnswer) (u : Val) → block-values r ≡ found → ent 𝓤 (⋆ 𝓤 H A (‵ (S.the-row .own r (u ∷ [])) ∷ (‵ (flft κ q) ⊛ ‵ ftrue) ∷ ‵ (Own κ d) ∷ [])) (Post u)
   exits r u e =
-      qed W (‵ (S.the-row .own r (u ∷ [])) ∷ (‵ (flft κ q) ⊛ ‵ ftrue) ∷ ‵ Own ∷ []) ∵
-      suffices ! _ (ends-at 𝓤 H A block.ended stayed (block.clauses 𝓤 H A mem run) W (((κ, tt), (q, tt), tt, (d, tt), (mach ∷ [], tt)), tt) u r (tt, tt) (tt, tt)) $ says ! e $
+      qed W (‵ (S.the-row .own r (u ∷ [])) ∷ (‵ (flft κ q) ⊛ ‵ ftrue) ∷ ‵ (Own κ d) ∷ []) ∵
+      suffices ! _ (ends-at 𝓤 H A block.ended stayed (block.clauses 𝓤 H A mem run) W (((κ, tt), (q, tt), tt, (d, tt), (mach d ∷ [], tt)), tt) u r (tt, tt) (tt, tt)) $ says ! e $
       move ! (1 ∷ []) $ frame ! $ nothing ! $ move ! (2 ∷ 0 ∷ []) $ fjoin ! $ frame ! $ done !
 
   module _ (C : Calls 𝓤 H) (Λ : Loops 𝓤 H) (fm : FmC 𝓤 H (W .laws) C) (known : Triple 𝓤 (C #records·block-at) (BlockAt 𝓤 H A mem run)) where
-    walk : Holds (hasTy (T′.mir (named 0)) mach) × WT mach → ent 𝓤 (onEntry 𝓤 H A block.signature (κ, tt) (q, tt) (d, tt) (mach ∷ [], tt)) (WpFn 𝓤 H C Λ code.function (mach ∷ []) Post)
+    walk : Holds (hasTy (T′.mir (named 0)) (mach d)) × WT (mach d) → ent 𝓤 (onEntry 𝓤 H A block.signature (κ, tt) (q, tt) (d, tt) (mach d ∷ [], tt)) (WpFn 𝓤 H C Λ code.function (mach d ∷ []) Post)
     walk wt =
-        qed W (raw (onEntry 𝓤 H A block.signature (κ, tt) (q, tt) (d, tt) (mach ∷ [], tt)) ∷ []) ∵ enter ! C Λ code.function (mach ∷ []) _ $
+        qed W (raw (onEntry 𝓤 H A block.signature (κ, tt) (q, tt) (d, tt) (mach d ∷ [], tt)) ∷ []) ∵ enter ! C Λ code.function (mach d ∷ []) _ $
         alloc1 ! (λ l₀. alloc1 ! (λ l₁. alloc1 ! (λ l₂. alloc1 ! (λ l₃. alloc0 ! $ params1 ! $ pass1 ! (init ! 4 refl wt) $ pass0 ! $
         assigns ! (of-opd ! (load ! (from ! (fld ! refl (stop !))) (look-in ! 4 (sub ! 0 refl (whole !))))) (from ! (stop !)) (init ! 2 refl (tt, wt .1 .0)) $
         assigns ! (of-opd ! (load ! (from ! (fld ! refl (stop !))) (look-in ! 4 (sub ! 1 refl (whole !))))) (from ! (stop !)) (init ! 0 refl (tt, wt .1 .1 .0)) $
-        move ! (8 ∷ []) $ use1 W (raw (BlockAt 𝓤 H A mem run .pre to) ⊛ ‵ Own) (apart (wt .1 .1 .0 .fits)) $ split ! $
+        move ! (8 ∷ []) $ use1 W (raw (BlockAt 𝓤 H A mem run .pre to) ⊛ ‵ (Own κ d)) (apart (wt .1 .1 .0 .fits)) $ split ! $
         calls-at ! fm (BlockAt 𝓤 H A mem run) known to (and-then ! (load ! (from ! (stop !)) (look ! 4 refl)) (and-then ! (load ! (from ! (stop !)) (look ! 2 refl)) (no-more !))) (λ u.
         use1 W (later (some (λ (r : BlockAnswer). ((‵ (flft κ q) ⊛ ‵ ftrue) ⊛ ‵ (S.the-row .own r (u ∷ []))) ⊛ raw (ensured 𝓤 H A block-at.ended (block-at.clauses 𝓤 H A mem run) (κ, tt) (d .records, (d .at, tt)) tt r)))) (id⊢ 𝓤 _) $ await ! tt $ pick ! (λ r.
         split ! $ move ! (1 ∷ []) $ use1 W (raw (fact 𝓤 (block-values r ≡ found))) (said r) $ heard ! (block-values r ≡ found) (λ e. split ! $ move ! (1 ∷ []) $

@@ -45,6 +45,7 @@ use denote.Triple.Clauses.{ensured, lasts}
 use Rattle.text.specs.Utf8.{encode}
 use Rattle.records.specs.Answers.{text-answer}
 use Rattle.records.specs.declared.walker.Walker.{Walker}
+use Rattle.records.proofs.Held.{B, R, mach, slice, Own, Lent, lends}
 use Rattle.records.proofs.walker.Walker as T
 use Rattle.records.proofs.walker.Walker.Laws as T′
 use Rattle.records.proofs.walker.text_at as text-at
@@ -56,14 +57,6 @@ use Rattle.records.proofs.walker.Walker.text as text
 use Rattle.records.proofs.walker.Walker.text.Statement as stated
 use Rattle.records.proofs.walker.Walker.text.Code as code
 
--- the struct's type, over the signature's lifetimes
-abbrev B : Lfts 1 → RattleType
-B κs = T.the-row (namedLft 1 0 tt κs)
-
--- the result's type
-abbrev R : Lft → RattleType
-R κ = ShrSlice (named 0) κ u8
-
 abbrev stayed : Stays (text.ended .signature .params) (text.ended .kept)
 stayed = (stay-none B yes, (stay-none (λ _. usize) yes, tt))
 
@@ -73,15 +66,8 @@ module _ {M : Type 1} (𝓤 : URA M) (H : Heap 𝓤) (A : Atoms 𝓤) (mem : Mem
   TextAt = tripleOf 𝓤 H A text-at.signature (text-at.spec 𝓤 H A mem run)
 
 module _ {M : Type 1} (𝓤 : URA M) (H : Heap 𝓤) (A : Atoms 𝓤) (W : Given 𝓤 H A) (mem : Memory → SProp 𝓤) (run : Routine → Fun 𝓤) (κ : Lft) (q : Share) (d : Walker) (n : ℕ) (ok : n < 2 ^ 64) where
-  abbrev mach : Val
-  mach = T′.lowered d
-
   abbrev at : Vals text.signature (κ, tt)
-  at = (mach ∷ [], (vint w64 n ∷ [], tt))
-
-  -- the machine value of records
-  abbrev v : Val
-  v = sliceVal (d .records .ptr) (length (d .records .now))
+  at = (mach d ∷ [], (vint w64 n ∷ [], tt))
 
   abbrev found : List ℕ
   found = encode (text-answer (now (d .records)) (d .at) n)
@@ -89,57 +75,43 @@ module _ {M : Type 1} (𝓤 : URA M) (H : Heap 𝓤) (A : Atoms 𝓤) (W : Given
   abbrev Post : Val → SProp 𝓤
   Post = walkOf 𝓤 H A text.ended stayed (text.clauses 𝓤 H A mem run) .post (((κ, tt), (q, tt), tt, (d, (n, tt)), at), tt)
 
-  abbrev Own : Fml
-  Own = B (κ, tt) .own d (mach ∷ [])
-
-  -- the struct's type and laws, and d's fields' values
-  abbrev D : Declared
-  D = T.the-type (namedLft 1 0 tt (κ, tt))
-
-  abbrev L : LL.Laws D
-  L = T′.the-laws (namedLft 1 0 tt (κ, tt))
-
-  abbrev vd : Values (D .parts)
-  vd = (d .records, (d .at, tt))
-
   -- what the callee is passed
   abbrev passed : Vals text-at.signature (κ, tt)
-  passed = (v ∷ [], (vint w64 (d .at) ∷ [], (vint w64 n ∷ [], tt)))
+  passed = (slice (d .records) ∷ [], (vint w64 (d .at) ∷ [], (vint w64 n ∷ [], tt)))
 
   abbrev to : TextAt 𝓤 H A mem run .Ghost
   to = (((κ, tt), (q, tt), tt, (d .records, (d .at, (n, tt))), passed), tt)
 
   asked : ent 𝓤 (onEntry 𝓤 H A text-at.signature (κ, tt) (q, tt) (d .records, (d .at, (n, tt))) passed) (TextAt 𝓤 H A mem run .pre to)
-  asked = qed W ((‵ (flft κ q) ⊛ ‵ ftrue) ∷ ‵ (owns (ShrSlice (named 0) κ u8 ∷ usize ∷ usize ∷ []) (d .records, (d .at, (n, tt))) passed) ∷ []) ∵ join ! $ frame ! $ done !
+  asked = qed W ((‵ (flft κ q) ⊛ ‵ ftrue) ∷ ‵ (owns (R κ ∷ usize ∷ usize ∷ []) (d .records, (d .at, (n, tt))) passed) ∷ []) ∵ join ! $ frame ! $ done !
 
   -- what the struct owns gives what the callee asks, and is kept
-  apart : d .at < 2 ^ 64 → ent 𝓤 (onEntry 𝓤 H A text.signature (κ, tt) (q, tt) (d, (n, tt)) at) (sep 𝓤 (TextAt 𝓤 H A mem run .pre to) (sem 𝓤 H A Own))
+  apart : d .at < 2 ^ 64 → ent 𝓤 (onEntry 𝓤 H A text.signature (κ, tt) (q, tt) (d, (n, tt)) at) (sep 𝓤 (TextAt 𝓤 H A mem run .pre to) (sem 𝓤 H A (Own κ d)))
   apart fits =
       qed W ((‵ (flft κ q) ⊛ ‵ ftrue) ∷ ‵ (owns (B (κ, tt) ∷ usize ∷ []) (d, (n, tt)) at) ∷ []) ∵
-      move ! (1 ∷ []) $ fsplit ! $ move ! (1 ∷ []) $ drop ! $ use1 W (‵ Own ⊛ ‵ Own) (LL.copy D (T′.the-copy (namedLft 1 0 tt (κ, tt))) 𝓤 H A W .twice d (mach ∷ [])) $ split ! $
-      use1 W (given (mach ∷ [] ≡ mach ∷ []) (‵ (all-own (D .parts) L vd))) (own-open 𝓤 H A W D L vd mach) $ learn ! (λ _. use1 W (‵ (ownAt (D .parts) L 0 (d .records)) ⊛ ‵ (rest (D .parts) L 0 vd)) (own-out 𝓤 H A W (D .parts) L 0 vd) $ split ! $
-      -- [what records owns; what at owns; what the struct owns; the token]
-      move ! (1 ∷ []) $ drop ! $ nothing ! $ owned ! usize (Is usize) (uint-makes 𝓤 H A W w64) n _ (refl, ok) $ fjoin ! $ owned ! usize (Is usize) (uint-makes 𝓤 H A W w64) (d .at) _ (refl, fits) $ fjoin ! $ move ! (1 ∷ 0 ∷ []) $ fjoin ! $
-      move ! (2 ∷ 0 ∷ []) $ use2 W (raw (TextAt 𝓤 H A mem run .pre to)) asked $ frame ! $ done !)
+      move ! (1 ∷ []) $ fsplit ! $ move ! (1 ∷ []) $ drop ! $ use1 W (‵ (Lent κ (d .records)) ⊛ ‵ (Own κ d)) (lends 𝓤 H A W κ d) $ split ! $
+      -- [what records owns; what the struct owns; the token]
+      nothing ! $ owned ! usize (Is usize) (uint-makes 𝓤 H A W w64) n _ (refl, ok) $ fjoin ! $ owned ! usize (Is usize) (uint-makes 𝓤 H A W w64) (d .at) _ (refl, fits) $ fjoin ! $ move ! (1 ∷ 0 ∷ []) $ fjoin ! $
+      move ! (2 ∷ 0 ∷ []) $ use2 W (raw (TextAt 𝓤 H A mem run .pre to)) asked $ frame ! $ done !
 
   -- of the callee's `ensured`, the clause alone: it has no `&mut`, so what is said of last values is dropped
   said : (r : RefT (List ℕ)) → ent 𝓤 (ensured 𝓤 H A text-at.ended (text-at.clauses 𝓤 H A mem run) (κ, tt) (d .records, (d .at, (n, tt))) tt r) (fact 𝓤 (now r ≡ found))
   said r = exE 𝓤 _ (λ ws. snd∗ 𝓤 (sem 𝓤 H A (lasts text-at.ended (κ, tt) (d .records, (d .at, (n, tt))) ws)) (fact 𝓤 (now r ≡ found)))
 
-  exits : (r : RefT (List ℕ)) (u : Val) → now r ≡ found → ent 𝓤 (⋆ 𝓤 H A (‵ (R κ .own r (u ∷ [])) ∷ (‵ (flft κ q) ⊛ ‵ ftrue) ∷ ‵ Own ∷ [])) (Post u)
+  exits : (r : RefT (List ℕ)) (u : Val) → now r ≡ found → ent 𝓤 (⋆ 𝓤 H A (‵ (R κ .own r (u ∷ [])) ∷ (‵ (flft κ q) ⊛ ‵ ftrue) ∷ ‵ (Own κ d) ∷ [])) (Post u)
   exits r u e =
-      qed W (‵ (R κ .own r (u ∷ [])) ∷ (‵ (flft κ q) ⊛ ‵ ftrue) ∷ ‵ Own ∷ []) ∵
+      qed W (‵ (R κ .own r (u ∷ [])) ∷ (‵ (flft κ q) ⊛ ‵ ftrue) ∷ ‵ (Own κ d) ∷ []) ∵
       suffices ! _ (ends-at 𝓤 H A text.ended stayed (text.clauses 𝓤 H A mem run) W (((κ, tt), (q, tt), tt, (d, (n, tt)), at), tt) u r (tt, (tt, tt)) (tt, (tt, tt))) $ says ! e $
       move ! (1 ∷ []) $ frame ! $ nothing ! $ owned ! usize (Is usize) (uint-makes 𝓤 H A W w64) n _ (refl, ok) $ fjoin ! $ move ! (2 ∷ 0 ∷ []) $ fjoin ! $ frame ! $ done !
 
   module _ (C : Calls 𝓤 H) (Λ : Loops 𝓤 H) (fm : FmC 𝓤 H (W .laws) C) (known : Triple 𝓤 (C #records·text-at) (TextAt 𝓤 H A mem run)) where
-    walk : Holds (hasTy (T′.mir (named 0)) mach) × WT mach → ent 𝓤 (onEntry 𝓤 H A text.signature (κ, tt) (q, tt) (d, (n, tt)) at) (WpFn 𝓤 H C Λ code.function (mach ∷ vint w64 n ∷ []) Post)
+    walk : Holds (hasTy (T′.mir (named 0)) (mach d)) × WT (mach d) → ent 𝓤 (onEntry 𝓤 H A text.signature (κ, tt) (q, tt) (d, (n, tt)) at) (WpFn 𝓤 H C Λ code.function (mach d ∷ vint w64 n ∷ []) Post)
     walk wt =
-        qed W (raw (onEntry 𝓤 H A text.signature (κ, tt) (q, tt) (d, (n, tt)) at) ∷ []) ∵ enter ! C Λ code.function (mach ∷ vint w64 n ∷ []) _ $
+        qed W (raw (onEntry 𝓤 H A text.signature (κ, tt) (q, tt) (d, (n, tt)) at) ∷ []) ∵ enter ! C Λ code.function (mach d ∷ vint w64 n ∷ []) _ $
         alloc1 ! (λ l₀. alloc1 ! (λ l₁. alloc1 ! (λ l₂. alloc1 ! (λ l₃. alloc1 ! (λ l₄. alloc0 ! $ params1 ! $ pass1 ! (init ! 6 refl wt) $ pass1 ! (init ! 4 refl (tt, record { fits = ok })) $ pass0 ! $
         assigns ! (of-opd ! (load ! (from ! (fld ! refl (stop !))) (look-in ! 6 (sub ! 0 refl (whole !))))) (from ! (stop !)) (init ! 2 refl (tt, wt .1 .0)) $
         assigns ! (of-opd ! (load ! (from ! (fld ! refl (stop !))) (look-in ! 6 (sub ! 1 refl (whole !))))) (from ! (stop !)) (init ! 0 refl (tt, wt .1 .1 .0)) $
-        move ! (10 ∷ []) $ use1 W (raw (TextAt 𝓤 H A mem run .pre to) ⊛ ‵ Own) (apart (wt .1 .1 .0 .fits)) $ split ! $
+        move ! (10 ∷ []) $ use1 W (raw (TextAt 𝓤 H A mem run .pre to) ⊛ ‵ (Own κ d)) (apart (wt .1 .1 .0 .fits)) $ split ! $
         calls-at ! fm (TextAt 𝓤 H A mem run) known to (and-then ! (load ! (from ! (stop !)) (look ! 4 refl)) (and-then ! (load ! (from ! (stop !)) (look ! 2 refl)) (and-then ! (load ! (from ! (stop !)) (look ! 6 refl)) (no-more !)))) (λ u.
         use1 W (later (some (λ (r : RefT (List ℕ)). ((‵ (flft κ q) ⊛ ‵ ftrue) ⊛ ‵ (R κ .own r (u ∷ []))) ⊛ raw (ensured 𝓤 H A text-at.ended (text-at.clauses 𝓤 H A mem run) (κ, tt) (d .records, (d .at, (n, tt))) tt r)))) (id⊢ 𝓤 _) $ await ! tt $ pick ! (λ r.
         split ! $ move ! (1 ∷ []) $ use1 W (raw (fact 𝓤 (now r ≡ found))) (said r) $ heard ! (now r ≡ found) (λ e. split ! $ move ! (1 ∷ []) $
