@@ -8,7 +8,7 @@ use mathlib.Core.Logic.{inl, inr, ⊎-elim}
 use mathlib.Core.List.{List, [], _∷_}
 use lib.ListN.{length, drop, getD, drop-of-length-le}
 use lib.Dec.{leb, eqb, lit<}
-use borrow.Author.Tests.{eqb-true, eq-eqb, ne-eqb, leb-true}
+use borrow.Author.Tests.{eqb-true, eq-eqb, ne-eqb, leb-true, le-leb, lt-leb}
 use Rattle.text.specs.Words.{same, str}
 use Rattle.text.specs.Chars.{is-digit}
 use Rattle.text.specs.Utf8.{Scalars, utf8, encode, size, chars}
@@ -97,9 +97,20 @@ pub marker-bullet : (m : List ℕ) → is-bullet (chars m) ≡ true → is-marke
 unfolding is-marker
 marker-bullet m e = rw e
 
-pub marker-ordinal : (m : List ℕ) → is-bullet (chars m) ≡ false → is-marker (chars m) ≡ is-ordinal m
-unfolding is-marker
-marker-ordinal m e = rw (e, ordinal-chars m)
+module _ (m : List ℕ) (b : is-bullet (chars m) ≡ false) where
+  marker-ordinal : is-marker (chars m) ≡ is-ordinal m
+  unfolding is-marker
+  marker-ordinal = rw (b, ordinal-chars m)
+
+  pub marker-few : length m < 2 → is-marker (chars m) ≡ false
+  marker-few h = marker-ordinal ∙ rw (lt-leb 2 (length m) h)
+
+  module _ (l : 2 ≤ length m) where
+    pub marker-many : 10 < length m → is-marker (chars m) ≡ false
+    marker-many h = marker-ordinal ∙ rw (le-leb 2 (length m) l, lt-leb (length m) 10 h)
+
+    pub marker-digits : length m ≤ 10 → is-marker (chars m) ≡ digits-stop m
+    marker-digits h = marker-ordinal ∙ rw (le-leb 2 (length m) l, le-leb (length m) 10 h)
 
 module _ (m : List ℕ) (i : ℕ) (h : i + 2 ≤ length m) where
   pub stop-step : is-digit (getD m i 0) ≡ true → digits-stop (drop (i + 1) m) ≡ digits-stop (drop i m)

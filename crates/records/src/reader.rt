@@ -20,16 +20,16 @@ enum Part {
 fn text_read(s: &[u8], at: usize) -> Part
     ensures { λ r. ⌜ PartIs (text-at (drop at (now (s .entry)))) (now (s .entry)) r ⌝ }
 {
-    let Number::Value { value, next } = u32_at(s, at) else {
+    let Number::Value { value: size, next } = u32_at(s, at) else {
         return Part::Bad;
     };
-    if value < 1 {
+    if size < 1 {
         return Part::Bad;
     }
-    if s.len() - next < value {
+    if s.len() - next < size {
         return Part::Bad;
     }
-    let end = next + value;
+    let end = next + size;
     if text::is_utf8(&s[next..end]) {
         Part::At { start: next, end }
     } else {
@@ -179,13 +179,13 @@ fn marker_read(s: &[u8], at: usize, depth: usize) -> KindRead
 fn item_at(s: &[u8], at: usize) -> KindRead
     ensures { λ r. ⌜ KindIs (item-at (drop at (now (s .entry)))) (now (s .entry)) r ⌝ }
 {
-    let Number::Value { value, next } = u16_at(s, at) else {
+    let Number::Value { value: depth, next } = u16_at(s, at) else {
         return KindRead::Bad;
     };
-    if value < 1 {
+    if depth < 1 {
         return KindRead::Bad;
     }
-    marker_read(s, next, value)
+    marker_read(s, next, depth)
 }
 
 // The fields of the map's bits 0 to 2.
@@ -217,13 +217,13 @@ fn count_at(s: &[u8], at: usize, counted: bool) -> Number
     ensures { λ r. ⌜ NumberIs (count-at counted (drop at (now (s .entry)))) (now (s .entry)) r ⌝ }
 {
     if counted {
-        let Number::Value { value, next } = u32_at(s, at) else {
+        let Number::Value { value: count, next } = u32_at(s, at) else {
             return Number::Bad;
         };
-        if value < 1 {
+        if count < 1 {
             return Number::Bad;
         }
-        Number::Value { value, next }
+        Number::Value { value: count, next }
     } else {
         Number::Value { value: 0, next: at }
     }
@@ -252,14 +252,14 @@ fn head_at(s: &[u8], at: usize) -> Head
     let KindRead::At { kind, next } = kind_at(s, at + 1, m % 8) else {
         return Head::Bad;
     };
-    let Number::Value { value, next: first } = count_at(s, next, 8 <= m) else {
+    let Number::Value {
+        value: count,
+        next: first,
+    } = count_at(s, next, 8 <= m)
+    else {
         return Head::Bad;
     };
-    Head::At {
-        kind,
-        count: value,
-        first,
-    }
+    Head::At { kind, count, first }
 }
 
 // A whole block: its kind, its span count, where its spans start, and where the next block starts.

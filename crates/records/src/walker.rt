@@ -74,13 +74,13 @@ pub fn marker_at(records: &[u8], at: usize) -> &[u8]
     };
     let Kind::Item {
         depth: _,
-        start,
-        end,
+        start: from,
+        end: to,
     } = kind
     else {
         return &records[..0];
     };
-    &records[start..end]
+    &records[from..to]
 }
 
 // A span of a block, with its text's place.

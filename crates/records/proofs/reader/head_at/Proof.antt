@@ -32,8 +32,8 @@ returns-3 c = let a = c .before .before .before .before .before .before .before 
 count-at-requires : tie.Need-count-at-requires
 count-at-requires c κs = kind-within (c .before .before .before .kind-at .ensures) (c .before .kind .given .1)
 
-enum-known-value : tie.Need-enum-known-value
-enum-known-value c = search needs
+enum-known-count : tie.Need-enum-known-count
+enum-known-count c = search needs
 
 enum-told-2 : tie.Need-enum-told-2
 enum-told-2 c = search needs
@@ -42,7 +42,7 @@ returns-4 : tie.Need-returns-4
 returns-4 c = let a = c .before .before .before .before .before .before .before .before .before .before .before .args in head-uncounted (a .s .now) (a .at) (c .before .before .before .before .before .before .before .before .before .if1 .left) (c .before .before .before .before .before .before .before .if2 .left) (c .before .before .before .before .before .before .kind-at .ensures) (c .before .before .before .before .kind .given .1) (c .before .before .count-at .ensures) (c .enum-told2 .given .1)
 
 returns-5 : tie.Need-returns-5
-returns-5 c = let a = c .before .before .before .before .before .before .before .before .before .before .before .before .args in head-is (a .s .now) (a .at) (c .before .before .before .before .before .before .before .before .before .before .if1 .left) (c .before .before .before .before .before .before .before .before .if2 .left) (c .before .before .before .before .before .before .before .kind-at .ensures) (c .before .before .before .before .before .kind .given .1) (c .before .before .before .count-at .ensures) (c .before .value .given .1)
+returns-5 c = let a = c .before .before .before .before .before .before .before .before .before .before .before .before .args in head-is (a .s .now) (a .at) (c .before .before .before .before .before .before .before .before .before .before .if1 .left) (c .before .before .before .before .before .before .before .before .if2 .left) (c .before .before .before .before .before .before .before .kind-at .ensures) (c .before .before .before .before .before .kind .given .1) (c .before .before .before .count-at .ensures) (c .before .count .given .1)
 
 pub head-at-spec : {M : Type 1} → statement M
 head-at-spec =
@@ -57,7 +57,7 @@ head-at-spec =
     enum-told
     returns-3
     count-at-requires
-    enum-known-value
+    enum-known-count
     enum-told-2
     returns-4
     returns-5)
