@@ -10,6 +10,7 @@ pub mod Heads
 pub mod Blocks
 pub mod WalkerLaws
 pub mod Walked
+pub mod FormatLaws
 pub mod Stores
 pub mod Held
 pub mod Examples

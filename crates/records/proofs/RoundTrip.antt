@@ -22,6 +22,10 @@ record-decodes = block-at-of
 pub decoded-is-record : (s : List ℕ) {b : Block} {r : List ℕ} → block-at s ≡ parsed b r → Bytes s → (s ≡ encode-block b ++ r) × WfBlock b
 decoded-is-record s h w = let x = block-inv s h w in (x .same, x .good)
 
+pub record-iff : (s : List ℕ) (b : Block) (r : List ℕ) → Bytes s → (block-at s ≡ parsed b r) ↔ (WfBlock b × (s ≡ encode-block b ++ r))
+record-iff s b r w =
+    (λ h. let x = decoded-is-record s h w in (x .1, x .0), λ h. ap block-at (h .1) ∙ record-decodes b r (h .0))
+
 -- ---- whole strings
 block-some : (b : Block) → 1 ≤ length (encode-block b)
 unfolding encode-block

@@ -1,19 +1,19 @@
 -- Walking the records of a list of blocks shows each block in order, and then the end.
 -- Assumes nothing.
-use Prim.Native.Nat.{ℕ, zero, suc, _+_, _-_, _<_, _≤_}
+use Prim.Native.Nat.{ℕ, _+_, _-_, _<_, _≤_}
 use native.Mathlib.Omega.{arith}
-use native.Mathlib.Nat.{zero-add}
-use mathlib.Core.Path.{_≡_, refl, sym, ap, _∙_}
+use mathlib.Core.Path.{_≡_, sym, ap, _∙_}
 use mathlib.Core.List.{List, [], _∷_, _++_, append-assoc, append-nil}
 use lib.ListN.{length, drop, length-append, drop-of-length-le}
 use lib.Seq.{drop-append-seam}
-use borrow.Author.Tests.{eq-eqb, ne-eqb}
-use Rattle.records.specs.Blocks.{Span, Kind, Block}
+use borrow.Author.Tests.{ne-eqb}
+use Rattle.records.specs.Blocks.{Block}
 use Rattle.records.specs.Format.{encode-block, encode-blocks, WfBlock, WfBlocks}
-use Rattle.records.specs.Decode.{Parse, failed, parsed, head-at, block-at}
-use Rattle.records.specs.Answers.{Answer, at-end, refused, gives, found-at, block-answer, marker-answer, span-in, span-answer, text-answer}
-use Rattle.records.specs.Walk.{Shows, Walk}
+use Rattle.records.specs.Decode.{Bytes, failed, parsed, block-at, decode-blocks}
+use Rattle.records.specs.Answers.{gives, found-at, block-answer, marker-answer, span-in, span-answer, text-answer}
+use Rattle.records.specs.Walk.{Shows, Ends, Refuses, Walk}
 use Rattle.records.proofs.Encoded.{block-at-of}
+use Rattle.records.proofs.RoundTrip.{decoded-are-records}
 use Rattle.records.proofs.WalkerLaws.{nothing-there, found-end, found-none}
 
 -- the answers, where it is known what stands at the offset
@@ -23,16 +23,21 @@ module _ (s : List ℕ) (at : ℕ) where
   shows b next e = record { values = rw e; marker = rw e; emphasis = λ n. rw e; text = λ n. rw e }
 
   -- at the length the end is answered, for a span number too
-  pub at-the-end : at ≡ length s → (block-answer s at ≡ at-end) × ((n : ℕ) → span-answer s at n ≡ at-end)
-  unfolding block-answer span-answer span-in
-  at-the-end h = (rw (found-end s at h), λ n. rw (found-end s at h))
+  pub at-the-end : at ≡ length s → Ends s at
+  unfolding block-answer marker-answer span-answer text-answer span-in
+  at-the-end h =
+      let e = found-end s at h in
+      record { values = rw e; marker = rw e; emphasis = λ n. rw e; text = λ n. rw e }
 
-  -- past it, and where no block stands, 7
-  pub no-block : (at ≡ length s → ⊥) → block-at (drop at s) ≡ failed → (block-answer s at ≡ refused 7) × ((n : ℕ) → span-answer s at n ≡ refused 7)
-  unfolding block-answer span-answer span-in
-  no-block h e = (rw (found-none s at h e), λ n. rw (found-none s at h e))
+  -- where no block stands, 7
+  pub no-block : (at ≡ length s → ⊥) → block-at (drop at s) ≡ failed → Refuses s at
+  unfolding block-answer marker-answer span-answer text-answer span-in
+  no-block h f =
+      let e = found-none s at h f in
+      record { values = rw e; marker = rw e; emphasis = λ n. rw e; text = λ n. rw e }
 
-  pub past-the-end : length s < at → (block-answer s at ≡ refused 7) × ((n : ℕ) → span-answer s at n ≡ refused 7)
+  -- and past the end
+  pub past-the-end : length s < at → Refuses s at
   past-the-end h =
       let l : length s ≤ at = omega arith in
       no-block (λ e. omega arith) (ap block-at (drop-of-length-le s l) ∙ nothing-there)
@@ -55,7 +60,7 @@ passed pre e post bs h = rw (← append-assoc pre e post, ← length-append pre 
 
 walk-from : (bs : List Block) (pre : List ℕ) → WfBlocks bs → Walk (pre ++ encode-blocks bs) (length pre) bs
 unfolding encode-blocks
-walk-from [] pre w = at-the-end (pre ++ []) (length pre) (ap length (sym (append-nil pre))) .0
+walk-from [] pre w = at-the-end (pre ++ []) (length pre) (ap length (sym (append-nil pre)))
 walk-from (b ∷ bs) pre w = (
   length pre + length (encode-block b),
   shows (pre ++ (encode-block b ++ encode-blocks bs)) (length pre) b _ (stands pre (encode-blocks bs) b (w .0)),
@@ -65,3 +70,9 @@ walk-from (b ∷ bs) pre w = (
 -- each block of the list, in order, from offset 0 on, and then the end
 pub walk-gives-back : (bs : List Block) → WfBlocks bs → Walk (encode-blocks bs) 0 bs
 walk-gives-back bs w = walk-from bs [] w
+
+-- so too where the blocks are what bytes decode to
+pub walk-decoded : (s : List ℕ) (bs : List Block) (r : List ℕ) → Bytes s → decode-blocks s ≡ parsed bs r → Walk s 0 bs
+walk-decoded s bs r w h =
+    let x = decoded-are-records s h w in
+    rw (x .0) (walk-gives-back bs (x .1))
