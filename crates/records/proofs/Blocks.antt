@@ -5,7 +5,7 @@ use mathlib.Core.Path.{_≡_, refl, sym, ap, subst, _∙_}
 use mathlib.Core.List.{List, [], _∷_}
 use lib.ListN.{length, drop}
 use Rattle.records.specs.Blocks.{Span}
-use Rattle.records.specs.Decode.{Parse, failed, parsed, _▹_, span-at, spans-at, Head, head-at, block-at}
+use Rattle.records.specs.Decode.{Parse, failed, parsed, span-at, spans-at, Head, head-at, block-at}
 use Rattle.records.specs.Readers.{rest, EndIs, end-parse, end-next, kind-of, kind-placed, HeadIs, head-placed, Found, WholeIs}
 use Rattle.records.specs.declared.reader.Kind as K
 use Rattle.records.specs.declared.reader.Head as H

@@ -3,22 +3,19 @@
 use Prim.Native.Nat.{ℕ, zero, suc, _+_, _*_, _/_, _%_, _^_, _<_, _≤_}
 use native.Mathlib.Omega.{arith}
 use mathlib.Core.Path.{_≡_, refl, sym, ap, _∙_, subst, subst₂}
-use mathlib.Core.Bool.{Bool, true, false, cond, _&&_, _||_, false≢true}
+use mathlib.Core.Bool.{Bool, true, false, cond}
 use mathlib.Core.Logic.{_⊎_, ⊎-elim, inl, inr}
 use mathlib.Core.List.{List, [], _∷_, _++_, append-assoc}
-use lib.ListN.{length, take, drop, length-append, take-append-drop}
+use lib.ListN.{length, take, drop, take-append-drop}
 use lib.Seq.{length-take-le}
 use lib.Dec.{leb, ltb, eqb, lit<}
 use native.Mathlib.Nat.{mul-zero, mul-one}
-use borrow.Author.Tests.{leb-true, leb-false, ltb-true, ltb-false, eqb-true, eqb-false, le-leb, lt-leb, eq-eqb}
+use borrow.Author.Tests.{leb-true, leb-false, ltb-true, ltb-false, eqb-true, le-leb, lt-leb, eq-eqb}
 use Rattle.text.specs.Utf8.{Scalars, encode, size, chars, is-utf8}
 use Rattle.text.proofs.Laws.{encode-chars}
-use Rattle.records.specs.Blocks.{Span, Kind, Block}
-use Rattle.records.specs.Format.{le16, le32, non-empty, encode-text, span-map, encode-span, encode-spans, encode-kind, encode-count, encode-block, encode-blocks, kind-bits, bit, is-marker, WfSpan, WfSpans, WfKind, WfBlock, WfBlocks}
-use Rattle.records.specs.Decode.{Bytes}
-use Rattle.records.specs.Blocks.{heading, paragraph, item}
-use Rattle.records.specs.Decode.{Parse, _▹_, only, u16, u32, part, text-at, span-of, span-at, spans-at, level-at, marker-at, item-at, kind-at, count-at, Head, head-at, block-at}
-use Rattle.records.specs.Decode.{failed, parsed}
+use Rattle.records.specs.Blocks.{Span, Kind, Block, item}
+use Rattle.records.specs.Format.{le16, le32, non-empty, encode-text, span-map, encode-span, encode-spans, encode-kind, encode-count, encode-block, kind-bits, bit, is-marker, WfSpan, WfSpans, WfKind, WfBlock}
+use Rattle.records.specs.Decode.{Bytes, Parse, _▹_, only, u16, u32, part, text-at, span-of, span-at, spans-at, level-at, marker-at, item-at, kind-at, count-at, Head, head-at, block-at, failed, parsed}
 use Rattle.records.proofs.TextMore.{size-encode, utf8-scalars}
 
 module _ {A : Type 0} {a : A} {r : List ℕ} where

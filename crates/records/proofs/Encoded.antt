@@ -1,21 +1,19 @@
 -- Decoding an encoding gives what was encoded, and what follows it.
 -- Assumes nothing.
-use Prim.Native.Nat.{ℕ, zero, suc, _+_, _*_, _/_, _%_, _^_, _<_, _≤_}
+use Prim.Native.Nat.{ℕ, zero, suc, _+_, _/_, _%_, _^_, _<_, _≤_}
 use native.Mathlib.Omega.{arith}
-use mathlib.Core.Path.{_≡_, refl, sym, ap, _∙_}
-use mathlib.Core.Bool.{Bool, true, false, cond, _&&_, _||_, false≢true}
+use mathlib.Core.Path.{_≡_, refl, ap}
+use mathlib.Core.Bool.{Bool, true, false, _||_, false≢true}
 use mathlib.Core.List.{List, [], _∷_, _++_, append-assoc}
-use lib.ListN.{length, take, drop, length-append}
+use lib.ListN.{length, length-append}
 use lib.Seq.{take-append-seam, drop-append-seam}
-use lib.Dec.{leb, ltb, eqb}
-use borrow.Author.Tests.{le-leb, lt-ltb}
-use Rattle.text.specs.Utf8.{Scalars, utf8, encode, size, chars, is-utf8}
+use lib.Dec.{leb, ltb}
+use borrow.Author.Tests.{le-leb}
+use Rattle.text.specs.Utf8.{Scalars, encode, size}
 use Rattle.text.proofs.Laws.{utf8-size, chars-encode}
-use Rattle.records.specs.Blocks.{Span, Kind, Block}
-use Rattle.records.specs.Format.{le16, le32, non-empty, encode-text, encode-span, encode-spans, encode-kind, encode-count, encode-block, encode-blocks, kind-bits, bit, is-marker, WfSpan, WfSpans, WfKind, WfBlock, WfBlocks}
-use Rattle.records.specs.Blocks.{heading, paragraph, item}
-use Rattle.records.specs.Decode.{Parse, _▹_, only, u16, u32, part, text-at, span-of, span-at, spans-at, level-at, marker-at, item-at, kind-at, count-at, Head, head-at, block-at}
-use Rattle.records.specs.Decode.{failed, parsed}
+use Rattle.records.specs.Blocks.{Span, Kind, Block, heading, paragraph, item}
+use Rattle.records.specs.Format.{le16, le32, non-empty, encode-span, encode-spans, encode-kind, encode-count, encode-block, kind-bits, bit, is-marker, WfSpan, WfSpans, WfKind, WfBlock}
+use Rattle.records.specs.Decode.{u16, u32, part, text-at, span-at, spans-at, level-at, marker-at, item-at, kind-at, count-at, head-at, block-at, parsed}
 use Rattle.records.proofs.TextMore.{size-encode, utf8-encode}
 use Rattle.records.proofs.Markers.{marker-scalars}
 

@@ -12,8 +12,8 @@ use Rattle.text.specs.Chars.{is-scalar}
 use Rattle.text.specs.Utf8.{utf8, size, char-of, char, starts3, starts4, scan, chars, is-utf8}
 use Rattle.records.specs.Blocks.{Span, Block, Heading, Paragraph, Item}
 use Rattle.records.specs.Format.{encode-span, encode-spans, encode-block, encode-blocks, is-marker}
-use Rattle.records.specs.Decode.{Parse, failed, parsed, u16, u32, part, text-at, span-at, spans-at, level-at, marker-at, item-at, kind-at, count-at, head-at, block-at, blocks-at, decode-blocks}
-use Rattle.records.specs.Answers.{Answer, at-end, refused, gives, number, found-at, block-answer, marker-answer, span-in, span-answer, text-answer}
+use Rattle.records.specs.Decode.{parsed, u16, u32, part, text-at, span-at, spans-at, level-at, marker-at, item-at, kind-at, count-at, head-at, block-at, blocks-at, decode-blocks}
+use Rattle.records.specs.Answers.{at-end, refused, gives, number, found-at, block-answer, marker-answer, span-in, span-answer, text-answer}
 
 abbrev plain : String → Span
 plain t = record { text = str t; bold = false; italic = false; code = false }

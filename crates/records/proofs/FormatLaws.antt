@@ -1,14 +1,14 @@
 -- How a record is put together: what a writer stores one after the other.
 -- Assumes nothing.
-use Prim.Native.Nat.{ℕ, suc, _+_}
+use Prim.Native.Nat.{ℕ, _+_}
 use native.Mathlib.Nat.{add-zero}
 use mathlib.Core.Path.{_≡_, refl, sym, ap, _∙_}
-use mathlib.Core.Bool.{Bool, true, false, false≢true}
+use mathlib.Core.Bool.{true, false, false≢true}
 use mathlib.Core.List.{List, [], _∷_, _++_, append-assoc, append-nil}
 use lib.ListN.{length}
 use Rattle.text.specs.Utf8.{encode, size}
 use Rattle.records.specs.Blocks.{Span, Kind, Block}
-use Rattle.records.specs.Format.{le32, bit, non-empty, span-map, encode-text, encode-span, encode-spans, kind-bits, encode-kind, encode-block, encode-blocks}
+use Rattle.records.specs.Format.{le32, non-empty, span-map, encode-text, encode-span, encode-spans, kind-bits, encode-kind, encode-block, encode-blocks}
 
 pub spans-append : (xs ys : List Span) → encode-spans (xs ++ ys) ≡ encode-spans xs ++ encode-spans ys
 unfolding encode-spans

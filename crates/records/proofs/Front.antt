@@ -1,14 +1,13 @@
 -- Reading off the front of `drop at s`: the bytes that stand there, and what the decoder makes of them.
 -- Assumes nothing.
-use Prim.Native.Nat.{ℕ, zero, suc, _+_, _-_, _*_, _<_, _≤_, zero-le}
+use Prim.Native.Nat.{ℕ, suc, _+_, _-_, _*_, _<_, _≤_, zero-le}
 use native.Mathlib.Omega.{arith}
 use native.Mathlib.Numerals.{add-one, add-two, add-three, add-four}
-use mathlib.Core.Path.{_≡_, refl, sym, ap, _∙_}
+use mathlib.Core.Path.{_≡_, refl, ap, _∙_}
 use mathlib.Core.List.{List, [], _∷_}
-use lib.ListN.{length, take, drop, getD, length-drop}
+use lib.ListN.{length, drop, getD, length-drop}
 use lib.Seq.{drop-cons}
-use Rattle.records.specs.Decode.{Parse, u16, u32}
-use Rattle.records.specs.Decode.{failed, parsed}
+use Rattle.records.specs.Decode.{u16, u32, failed}
 use Rattle.records.specs.Readers.{NumberIs}
 use Rattle.records.specs.declared.fields.Number.the-variants.{Value, Bad}
 

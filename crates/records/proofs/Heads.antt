@@ -1,19 +1,18 @@
 -- What the answers of the readers before a block's spans follow from. Each law answers one return of the code.
 -- Assumes nothing.
-use Prim.Native.Nat.{ℕ, zero, suc, _+_, _-_, _%_, _<_, _≤_, zero-le}
+use Prim.Native.Nat.{ℕ, _+_, _-_, _%_, _<_, _≤_, zero-le}
 use native.Mathlib.Omega.{arith}
-use mathlib.Core.Path.{_≡_, refl, sym, ap, subst, _∙_}
-use mathlib.Core.Bool.{Bool, true, false, cond}
-use mathlib.Core.List.{List, [], _∷_}
-use lib.ListN.{length, take, drop, getD, drop-of-length-le}
-use lib.Dec.{leb, ltb, eqb}
+use mathlib.Core.Path.{_≡_, subst}
+use mathlib.Core.Bool.{Bool, true, false}
+use mathlib.Core.List.{List}
+use lib.ListN.{length, drop, getD, drop-of-length-le}
+use lib.Dec.{leb}
 use borrow.Author.Tests.{le-leb, lt-leb, lt-ltb, le-ltb, eq-eqb, ne-eqb}
 use Rattle.records.specs.Blocks.{Kind}
 use Rattle.text.specs.Utf8.{chars}
 use Rattle.records.specs.Format.{is-marker}
-use Rattle.records.specs.Decode.{Parse, _▹_, only, u16, u32, level-at, marker-at, item-at, kind-at, count-at, head-at}
-use Rattle.records.specs.Decode.{failed, parsed}
-use Rattle.records.specs.Readers.{NumberIs, number-parse, between, KindIs, kind-parse, kind-read-placed, HeadIs}
+use Rattle.records.specs.Decode.{Parse, u16, u32, level-at, marker-at, item-at, kind-at, count-at, head-at}
+use Rattle.records.specs.Readers.{NumberIs, between, KindIs, kind-read-placed, HeadIs}
 use Rattle.records.specs.declared.fields.Number.{Number}
 use Rattle.records.specs.declared.fields.Number.the-variants.{Value, Bad}
 use Rattle.records.specs.declared.reader.Kind as K

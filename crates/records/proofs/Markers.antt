@@ -1,17 +1,17 @@
 -- Markers: tested by their bytes, defined by their characters.
 -- Assumes nothing.
-use Prim.Native.Nat.{ℕ, zero, suc, _+_, _-_, _<_, _≤_}
+use Prim.Native.Nat.{ℕ, _+_, _-_, _<_, _≤_}
 use native.Mathlib.Omega.{arith}
 use mathlib.Core.Path.{_≡_, refl, sym, ap, _∙_}
-use mathlib.Core.Bool.{Bool, true, false, _&&_, _||_, false≢true}
-use mathlib.Core.Logic.{inl, inr, ⊎-elim}
+use mathlib.Core.Bool.{Bool, true, false, _&&_, false≢true}
+use mathlib.Core.Logic.{inl}
 use mathlib.Core.List.{List, [], _∷_}
 use lib.ListN.{length, drop, getD, drop-of-length-le}
-use lib.Dec.{leb, eqb, lit<}
+use lib.Dec.{leb, eqb}
 use borrow.Author.Tests.{eqb-true, eq-eqb, ne-eqb, leb-true, le-leb, lt-leb}
 use Rattle.text.specs.Words.{same, str}
 use Rattle.text.specs.Chars.{is-digit}
-use Rattle.text.specs.Utf8.{Scalars, utf8, encode, size, chars}
+use Rattle.text.specs.Utf8.{Scalars, utf8, size, chars}
 use Rattle.text.proofs.Tests.{and-true, or-elim, within-true}
 use Rattle.text.proofs.Laws.{encode-chars}
 use Rattle.text.proofs.AsciiLaws.{Ascii, encode-ascii}

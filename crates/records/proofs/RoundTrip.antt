@@ -2,7 +2,7 @@
 -- record of a well-formed block; and the same for whole record strings. So records give back their blocks, and one list of blocks
 -- has one record string.
 -- Assumes nothing.
-use Prim.Native.Nat.{ℕ, zero, suc, _<_, _≤_}
+use Prim.Native.Nat.{ℕ, zero, suc, _≤_}
 use native.Mathlib.Omega.{arith}
 use mathlib.Core.Path.{_≡_, refl, sym, ap, subst, _∙_}
 use mathlib.Core.Logic.{_↔_}
@@ -10,7 +10,7 @@ use mathlib.Core.List.{List, [], _∷_, _++_}
 use lib.ListN.{length, length-append}
 use Rattle.records.specs.Blocks.{Block}
 use Rattle.records.specs.Format.{encode-block, encode-blocks, WfBlock, WfBlocks}
-use Rattle.records.specs.Decode.{Bytes, Parse, failed, parsed, _▹_, block-at, blocks-at, decode-blocks}
+use Rattle.records.specs.Decode.{Bytes, parsed, block-at, blocks-at, decode-blocks}
 use Rattle.records.proofs.EncodedBytes.{bytes-blocks}
 use Rattle.records.proofs.Encoded.{block-at-of}
 use Rattle.records.proofs.Decoded.{not-failed, then-inv, block-inv}

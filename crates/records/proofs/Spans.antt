@@ -1,22 +1,21 @@
 -- What the span readers' answers follow from. Each law is stated over plain lists and numbers, and answers one return of the code.
 -- Assumes nothing.
-use Prim.Native.Nat.{ℕ, zero, suc, _+_, _-_, _*_, _/_, _%_, _<_, _≤_, zero-le}
+use Prim.Native.Nat.{ℕ, zero, suc, _+_, _-_, _/_, _%_, _<_, _≤_}
 use native.Mathlib.Omega.{arith}
 use native.Mathlib.Nat.{add-sub-cancel-left, sub-self}
 use native.Mathlib.Numerals.{sub-one}
 use mathlib.Core.Path.{_≡_, refl, sym, ap, subst, _∙_}
-use mathlib.Core.Bool.{Bool, true, false, cond}
-use mathlib.Core.List.{List, [], _∷_}
-use lib.ListN.{length, take, drop, getD, length-drop, drop-of-length-le}
+use mathlib.Core.Bool.{Bool, true, false}
+use mathlib.Core.List.{List, _∷_}
+use lib.ListN.{length, drop, getD, length-drop, drop-of-length-le}
 use lib.Seq.{drop-drop}
-use lib.Dec.{leb, ltb, eqb}
+use lib.Dec.{eqb}
 use borrow.Author.Tests.{le-leb, lt-leb, lt-ltb, le-ltb}
-use Rattle.text.specs.Utf8.{chars, is-utf8}
+use Rattle.text.specs.Utf8.{is-utf8}
 use Rattle.text.proofs.Laws.{chars-nil}
 use Rattle.records.specs.Blocks.{Span}
-use Rattle.records.specs.Decode.{Parse, _▹_, only, u16, u32, part, text-at, span-of, span-at, spans-at}
-use Rattle.records.specs.Decode.{failed, parsed}
-use Rattle.records.specs.Readers.{NumberIs, number-parse, number-next, between, PartIs, part-parse, part-placed, SpanIs, span-parse, span-placed, rest}
+use Rattle.records.specs.Decode.{Parse, _▹_, u32, part, text-at, span-at, spans-at, failed, parsed}
+use Rattle.records.specs.Readers.{NumberIs, number-parse, number-next, between, PartIs, part-placed, SpanIs, span-parse, span-placed, rest}
 use Rattle.records.specs.declared.fields.Number.{Number}
 use Rattle.records.specs.declared.fields.Number.the-variants.{Value, Bad}
 use Rattle.records.specs.declared.reader.Part.{Part}

@@ -1,9 +1,9 @@
 -- What the walker's answers follow from. Each law answers one return of the code.
 -- Assumes nothing.
-use Prim.Native.Nat.{ℕ, zero, suc, _+_, _-_, _<_, _≤_}
+use Prim.Native.Nat.{ℕ, zero, suc, _-_, _<_, _≤_}
 use native.Mathlib.Omega.{arith}
 use mathlib.Core.Path.{_≡_, refl, sym, ap, subst, _∙_}
-use mathlib.Core.Bool.{Bool, true, false, cond}
+use mathlib.Core.Bool.{Bool}
 use mathlib.Core.Logic.{⊎-elim}
 use mathlib.Core.List.{List, [], _∷_}
 use lib.ListN.{length, drop, length-drop, drop-of-length-le}
@@ -12,11 +12,11 @@ use types.Run.{OneOf}
 use denote.Enum.Declared.{tagOf}
 use borrow.Author.Tests.{eq-eqb, ne-eqb, eqb-false}
 use Rattle.text.specs.Utf8.{encode, chars}
-use Rattle.text.proofs.Tests.{decide, on}
+use Rattle.text.proofs.Tests.{on}
 use Rattle.text.proofs.Laws.{encode-chars}
 use Rattle.records.specs.Blocks.{Span, Kind, Block}
-use Rattle.records.specs.Decode.{Parse, failed, parsed, span-at, spans-at, head-at, block-at}
-use Rattle.records.specs.Answers.{Answer, at-end, refused, gives, map, BlockValues, level-of, depth-of, marker-of, emphasis-of, found-at, block-answer, text-or-none, marker-answer, nth, span-in, span-answer, text-answer}
+use Rattle.records.specs.Decode.{failed, parsed, span-at, spans-at, head-at, block-at}
+use Rattle.records.specs.Answers.{Answer, at-end, refused, gives, map, level-of, depth-of, marker-of, emphasis-of, found-at, block-answer, text-or-none, marker-answer, nth, span-in, span-answer, text-answer}
 use Rattle.records.specs.Readers.{between, Within, SpanIs, span-parse, span-placed, rest, EndIs, end-parse, kind-of, kind-placed, Found, NthIs, nth-asked, nth-placed}
 use Rattle.records.specs.declared.reader.Kind as K
 use Rattle.records.specs.declared.reader.Kind.the-variants as KV

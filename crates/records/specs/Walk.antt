@@ -3,7 +3,7 @@
 use Prim.Native.Nat.{ℕ}
 use mathlib.Core.Path.{_≡_}
 use mathlib.Core.List.{List, [], _∷_}
-use Rattle.records.specs.Blocks.{Span, Block}
+use Rattle.records.specs.Blocks.{Block}
 use Rattle.records.specs.Answers.{Answer, at-end, refused, gives, BlockValues, Emphasis, map, values-of, emphasis-of, marker-of, text-or-none, nth, block-answer, marker-answer, span-answer, text-answer}
 
 -- at this offset the walker shows the block b: its numbers and the next offset, its marker, and each span's emphasis and text

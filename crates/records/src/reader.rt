@@ -1,5 +1,4 @@
 // Reading a block of lent bytes. Each reader answers what it found at an offset, and the offset after it.
-ghost use mathlib.Core.Path.{_≡_};
 ghost use Prim.Native.Nat.{_≤_};
 ghost use lib.ListN.{length, drop};
 ghost use Rattle.records.specs.Decode.{text-at, span-at, spans-at, level-at, marker-at, item-at, kind-at, count-at, head-at};

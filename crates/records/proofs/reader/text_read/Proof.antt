@@ -1,6 +1,5 @@
 -- `reader::text_read` meets its contract: each return is answered by one law, over plain lists and numbers.
 -- Assumes nothing.
-use native.Mathlib.Omega.{arith}
 use Rattle.records.proofs.Spans.{number-within, text-none, text-empty, text-short, text-wrong, text-is}
 use borrow.Author.Needs.{needs}
 use Rattle.records.proofs.reader.text_read.Statement.{statement}

@@ -1,6 +1,5 @@
 -- `walker::block_at` meets its contract: each return is answered by one law, over plain lists and numbers.
 -- Assumes nothing.
-use mathlib.Core.Path.{sym, ap, _∙_}
 use Rattle.records.proofs.Blocks.{whole-bad, whole-found}
 use Rattle.records.proofs.WalkerLaws.{block-end, block-bad, block-case}
 use borrow.Author.Needs.{needs}

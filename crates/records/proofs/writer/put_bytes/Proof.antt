@@ -4,7 +4,6 @@ use Prim.Native.Nat.{ℕ, _+_, _-_, _≤_}
 use native.Mathlib.Nat.{add-zero}
 use native.Mathlib.Omega.{arith}
 use mathlib.Core.Path.{_≡_, refl, sym, ap, _∙_}
-use mathlib.Core.List.{List}
 use lib.ListN.{length, drop, length-set, drop-of-length-le}
 use lib.Seq.{sets}
 use Rattle.records.proofs.Stores.{sets-out, sets-next}
