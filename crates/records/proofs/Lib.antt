@@ -9,6 +9,7 @@ pub mod Spans
 pub mod Heads
 pub mod Blocks
 pub mod WalkerLaws
+pub mod NumberLaws
 pub mod Walked
 pub mod FormatLaws
 pub mod Stores
