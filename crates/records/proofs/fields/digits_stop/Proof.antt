@@ -33,7 +33,10 @@ is-digit-requires : tie.Need-is-digit-requires Inv-loop μ-loop
 is-digit-requires c κs = search needs
 
 returns-2 : tie.Need-returns-2 Inv-loop μ-loop
-returns-2 c = let m = c .before .before .before .before .before .before .before .args .m .now in let l = c .before .before .before .before .loop in sym (stop-bad m (l .i) (omega arith) (sym (c .before .is-digit .ensures) ∙ not-true _ (c .if2 .taken))) ∙ l .inv .1
+returns-2 c =
+    let m = c .before .before .before .before .before .before .before .args .m .now in
+    let l = c .before .before .before .before .loop in
+    sym (stop-bad m (l .i) (omega arith) (sym (c .before .is-digit .ensures) ∙ not-true _ (c .if2 .taken))) ∙ l .inv .1
 
 add-i : tie.Need-add-i Inv-loop μ-loop
 add-i c = omega arith
@@ -42,13 +45,20 @@ loop-less : tie.Need-loop-less Inv-loop μ-loop
 loop-less c = omega arith
 
 loop-again : tie.Need-loop-again Inv-loop μ-loop
-loop-again c = let m = c .before .before .before .before .before .before .before .args .m .now in let l = c .before .before .before .before .loop in (omega arith, stop-step m (l .i) (omega arith) (sym (c .before .is-digit .ensures) ∙ not-false _ (c .if2 .left)) ∙ l .inv .1)
+loop-again c =
+    let m = c .before .before .before .before .before .before .before .args .m .now in
+    let l = c .before .before .before .before .loop in
+    (omega arith, stop-step m (l .i) (omega arith) (sym (c .before .is-digit .ensures) ∙ not-false _ (c .if2 .left)) ∙ l .inv .1)
 
 shared-slice-read-result : tie.Need-shared-slice-read-result Inv-loop μ-loop
 shared-slice-read-result c = omega arith
 
 returns-3 : tie.Need-returns-3 Inv-loop μ-loop
-returns-3 c = let m = c .before .before .before .before .before .args .m .now in let l = c .before .before .loop in let e : length m - 1 ≡ l .i = omega arith in sym (stop-last m (omega arith)) ∙ ap (λ (k : ℕ). digits-stop (drop k m)) e ∙ l .inv .1
+returns-3 c =
+    let m = c .before .before .before .before .before .args .m .now in
+    let l = c .before .before .loop in
+    let e : length m - 1 ≡ l .i = omega arith in
+    sym (stop-last m (omega arith)) ∙ ap (λ (k : ℕ). digits-stop (drop k m)) e ∙ l .inv .1
 
 pub digits-stop-spec : {M : Type 1} → statement M
 digits-stop-spec =

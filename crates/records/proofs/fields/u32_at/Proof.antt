@@ -70,7 +70,10 @@ add-t19 : tie.Need-add-t19
 add-t19 c = search needs
 
 returns-3 : tie.Need-returns-3
-returns-3 c = u32-is _ _ (omega arith) (c .before .before .before .before .before .before .wide .ensures .0) (c .before .before .before .before .wide2 .ensures .0) (c .before .before .wide3 .ensures .0) (c .wide4 .ensures .0)
+returns-3 c =
+    u32-is _ _ (omega arith)
+    (c .before .before .before .before .before .before .wide .ensures .0)
+    (c .before .before .before .before .wide2 .ensures .0) (c .before .before .wide3 .ensures .0) (c .wide4 .ensures .0)
 
 pub u32-at-spec : {M : Type 1} → statement M
 u32-at-spec =

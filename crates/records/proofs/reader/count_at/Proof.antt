@@ -15,13 +15,23 @@ enum-told : tie.Need-enum-told
 enum-told c = search needs
 
 returns : tie.Need-returns
-returns c = let a = c .before .before .before .before .before .args in count-none (a .s .now) (a .at) (c .before .before .before .if1 .taken) (c .before .before .u32-at .ensures) (c .enum-told .given .1)
+returns c =
+    let a = c .before .before .before .before .before .args in
+    count-none (a .s .now) (a .at) (c .before .before .before .if1 .taken) (c .before .before .u32-at .ensures) (c .enum-told .given .1)
 
 returns-2 : tie.Need-returns-2
-returns-2 c = let a = c .before .before .before .before .before .before .before .args in count-zero (a .s .now) (a .at) (c .before .before .before .before .before .if1 .taken) (c .before .before .before .before .u32-at .ensures) (c .before .before .count .given .1) (c .if2 .taken)
+returns-2 c =
+    let a = c .before .before .before .before .before .before .before .args in
+    count-zero (a .s .now) (a .at)
+    (c .before .before .before .before .before .if1 .taken)
+    (c .before .before .before .before .u32-at .ensures) (c .before .before .count .given .1) (c .if2 .taken)
 
 returns-3 : tie.Need-returns-3
-returns-3 c = let a = c .before .before .before .before .before .before .before .args in count-is (a .s .now) (a .at) (c .before .before .before .before .before .if1 .taken) (c .before .before .before .before .u32-at .ensures) (c .before .before .count .given .1) (c .if2 .left)
+returns-3 c =
+    let a = c .before .before .before .before .before .before .before .args in
+    count-is (a .s .now) (a .at)
+    (c .before .before .before .before .before .if1 .taken)
+    (c .before .before .before .before .u32-at .ensures) (c .before .before .count .given .1) (c .if2 .left)
 
 returns-4 : tie.Need-returns-4
 returns-4 c = let a = c .before .before .args in count-no (a .s .now) (a .at) (c .if1 .left) (c .before .before .pre)

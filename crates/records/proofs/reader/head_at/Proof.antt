@@ -27,7 +27,11 @@ enum-told : tie.Need-enum-told
 enum-told c = search needs
 
 returns-3 : tie.Need-returns-3
-returns-3 c = let a = c .before .before .before .before .before .before .before .args in head-none (a .s .now) (a .at) (c .before .before .before .before .before .if1 .left) (c .before .before .before .if2 .left) (c .before .before .kind-at .ensures) (c .enum-told .given .1)
+returns-3 c =
+    let a = c .before .before .before .before .before .before .before .args in
+    head-none (a .s .now) (a .at)
+    (c .before .before .before .before .before .if1 .left) (c .before .before .before .if2 .left) (c .before .before .kind-at .ensures)
+    (c .enum-told .given .1)
 
 count-at-requires : tie.Need-count-at-requires
 count-at-requires c κs = kind-within (c .before .before .before .kind-at .ensures) (c .before .kind .given .1)
@@ -39,10 +43,23 @@ enum-told-2 : tie.Need-enum-told-2
 enum-told-2 c = search needs
 
 returns-4 : tie.Need-returns-4
-returns-4 c = let a = c .before .before .before .before .before .before .before .before .before .before .before .args in head-uncounted (a .s .now) (a .at) (c .before .before .before .before .before .before .before .before .before .if1 .left) (c .before .before .before .before .before .before .before .if2 .left) (c .before .before .before .before .before .before .kind-at .ensures) (c .before .before .before .before .kind .given .1) (c .before .before .count-at .ensures) (c .enum-told2 .given .1)
+returns-4 c =
+    let a = c .before .before .before .before .before .before .before .before .before .before .before .args in
+    head-uncounted (a .s .now) (a .at)
+    (c .before .before .before .before .before .before .before .before .before .if1 .left)
+    (c .before .before .before .before .before .before .before .if2 .left)
+    (c .before .before .before .before .before .before .kind-at .ensures)
+    (c .before .before .before .before .kind .given .1) (c .before .before .count-at .ensures) (c .enum-told2 .given .1)
 
 returns-5 : tie.Need-returns-5
-returns-5 c = let a = c .before .before .before .before .before .before .before .before .before .before .before .before .args in head-is (a .s .now) (a .at) (c .before .before .before .before .before .before .before .before .before .before .if1 .left) (c .before .before .before .before .before .before .before .before .if2 .left) (c .before .before .before .before .before .before .before .kind-at .ensures) (c .before .before .before .before .before .kind .given .1) (c .before .before .before .count-at .ensures) (c .before .count .given .1)
+returns-5 c =
+    let a = c .before .before .before .before .before .before .before .before .before .before .before .before .args in
+    head-is (a .s .now) (a .at)
+    (c .before .before .before .before .before .before .before .before .before .before .if1 .left)
+    (c .before .before .before .before .before .before .before .before .if2 .left)
+    (c .before .before .before .before .before .before .before .kind-at .ensures)
+    (c .before .before .before .before .before .kind .given .1)
+    (c .before .before .before .count-at .ensures) (c .before .count .given .1)
 
 pub head-at-spec : {M : Type 1} → statement M
 head-at-spec =

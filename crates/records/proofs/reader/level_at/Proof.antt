@@ -15,16 +15,24 @@ wide-requires : tie.Need-wide-requires
 wide-requires c κs = search needs
 
 returns-2 : tie.Need-returns-2
-returns-2 c = let a = c .before .before .before .before .before .args in level-low (a .s .now) (a .at) (c .before .before .before .if1 .left) (c .before .wide .ensures .0) (c .if2 .taken)
+returns-2 c =
+    let a = c .before .before .before .before .before .args in
+    level-low (a .s .now) (a .at) (c .before .before .before .if1 .left) (c .before .wide .ensures .0) (c .if2 .taken)
 
 returns-3 : tie.Need-returns-3
-returns-3 c = let a = c .before .before .before .before .before .before .args in level-high (a .s .now) (a .at) (c .before .before .before .before .if1 .left) (c .before .before .wide .ensures .0) (c .before .if2 .left) (c .if3 .taken)
+returns-3 c =
+    let a = c .before .before .before .before .before .before .args in
+    level-high (a .s .now) (a .at)
+    (c .before .before .before .before .if1 .left) (c .before .before .wide .ensures .0) (c .before .if2 .left) (c .if3 .taken)
 
 add-t4 : tie.Need-add-t4
 add-t4 c = search needs
 
 returns-4 : tie.Need-returns-4
-returns-4 c = let a = c .before .before .before .before .before .before .args in level-is (a .s .now) (a .at) (c .before .before .before .before .if1 .left) (c .before .before .wide .ensures .0) (c .before .if2 .left) (c .if3 .left)
+returns-4 c =
+    let a = c .before .before .before .before .before .before .args in
+    level-is (a .s .now) (a .at)
+    (c .before .before .before .before .if1 .left) (c .before .before .wide .ensures .0) (c .before .if2 .left) (c .if3 .left)
 
 pub level-at-spec : {M : Type 1} → statement M
 level-at-spec =

@@ -21,7 +21,9 @@ sub-if2 : tie.Need-sub-if2
 sub-if2 c = search needs
 
 returns-2 : tie.Need-returns-2
-returns-2 c = let a = c .before .before .before .before .before .args in marker-short (a .s .now) (a .at) (c .before .before .before .if1 .left) (c .before .wide .ensures .0) (a .depth) (c .if2 .taken)
+returns-2 c =
+    let a = c .before .before .before .before .before .args in
+    marker-short (a .s .now) (a .at) (c .before .before .before .if1 .left) (c .before .wide .ensures .0) (a .depth) (c .if2 .taken)
 
 add-end : tie.Need-add-end
 add-end c = search needs
@@ -39,10 +41,20 @@ is-marker-requires : tie.Need-is-marker-requires
 is-marker-requires c κs = search needs
 
 returns-3 : tie.Need-returns-3
-returns-3 c = let a = c .before .before .before .before .before .before .before .before .args in marker-is (a .s .now) (a .at) (c .before .before .before .before .before .before .if1 .left) (c .before .before .before .before .wide .ensures .0) (a .depth) (c .before .before .before .if2 .left) (c .before .is-marker .ensures) (c .if3 .taken)
+returns-3 c =
+    let a = c .before .before .before .before .before .before .before .before .args in
+    marker-is (a .s .now) (a .at)
+    (c .before .before .before .before .before .before .if1 .left)
+    (c .before .before .before .before .wide .ensures .0) (a .depth) (c .before .before .before .if2 .left) (c .before .is-marker .ensures)
+    (c .if3 .taken)
 
 returns-4 : tie.Need-returns-4
-returns-4 c = let a = c .before .before .before .before .before .before .before .before .args in marker-wrong (a .s .now) (a .at) (c .before .before .before .before .before .before .if1 .left) (c .before .before .before .before .wide .ensures .0) (a .depth) (c .before .before .before .if2 .left) (c .before .is-marker .ensures) (c .if3 .left)
+returns-4 c =
+    let a = c .before .before .before .before .before .before .before .before .args in
+    marker-wrong (a .s .now) (a .at)
+    (c .before .before .before .before .before .before .if1 .left)
+    (c .before .before .before .before .wide .ensures .0) (a .depth) (c .before .before .before .if2 .left) (c .before .is-marker .ensures)
+    (c .if3 .left)
 
 pub marker-read-spec : {M : Type 1} → statement M
 marker-read-spec =

@@ -30,7 +30,11 @@ enum-told : tie.Need-enum-told Inv-loop μ-loop
 enum-told c = search needs
 
 returns : tie.Need-returns Inv-loop μ-loop
-returns c = let a = c .before .before .before .before .before .before .args in let l = c .before .before .before .before .loop in record { read = sym (l .inv .1) ∙ spans-bad (a .s .now) (l .next) (c .before .before .span-read .ensures) (l .left) (c .before .before .before .loop-test .taken) (c .enum-told .given .1); within = zero-le }
+returns c =
+    let a = c .before .before .before .before .before .before .args in
+    let l = c .before .before .before .before .loop in
+    record
+    { read = sym (l .inv .1) ∙ spans-bad (a .s .now) (l .next) (c .before .before .span-read .ensures) (l .left) (c .before .before .before .loop-test .taken) (c .enum-told .given .1); within = zero-le }
 
 sub-left : tie.Need-sub-left Inv-loop μ-loop
 sub-left c = omega arith
@@ -39,10 +43,18 @@ loop-less : tie.Need-loop-less Inv-loop μ-loop
 loop-less c = omega arith
 
 loop-again : tie.Need-loop-again Inv-loop μ-loop
-loop-again c = let a = c .before .before .before .before .before .before .before .args in let l = c .before .before .before .before .before .loop in let w = c .before .before .before .span-read .ensures in let e = c .before .end .given .1 in (span-within w e .1, spans-next (a .s .now) (l .next) w (l .left) (c .before .before .before .before .loop-test .taken) e ∙ l .inv .1)
+loop-again c =
+    let a = c .before .before .before .before .before .before .before .args in
+    let l = c .before .before .before .before .before .loop in
+    let w = c .before .before .before .span-read .ensures in
+    let e = c .before .end .given .1 in
+    (span-within w e .1, spans-next (a .s .now) (l .next) w (l .left) (c .before .before .before .before .loop-test .taken) e ∙ l .inv .1)
 
 returns-2 : tie.Need-returns-2 Inv-loop μ-loop
-returns-2 c = let a = c .before .before .before .args in let l = c .before .loop in record { read = sym (l .inv .1) ∙ spans-none (l .left) _ (omega arith); within = l .inv .0 }
+returns-2 c =
+    let a = c .before .before .before .args in
+    let l = c .before .loop in
+    record { read = sym (l .inv .1) ∙ spans-none (l .left) _ (omega arith); within = l .inv .0 }
 
 pub spans-end-spec : {M : Type 1} → statement M
 spans-end-spec =

@@ -15,10 +15,14 @@ enum-told : tie.Need-enum-told
 enum-told c = search needs
 
 returns : tie.Need-returns
-returns c = let a = c .before .before .before .before .args in whole-none (a .s .now) (a .at) (c .before .before .head-at .ensures) (c .enum-told .given .1)
+returns c =
+    let a = c .before .before .before .before .args in
+    whole-none (a .s .now) (a .at) (c .before .before .head-at .ensures) (c .enum-told .given .1)
 
 spans-end-requires : tie.Need-spans-end-requires
-spans-end-requires c κs = let a = c .before .before .before .before .before .args in head-starts (a .s .now) (a .at) (c .before .before .before .head-at .ensures) (c .before .kind .given .1)
+spans-end-requires c κs =
+    let a = c .before .before .before .before .before .args in
+    head-starts (a .s .now) (a .at) (c .before .before .before .head-at .ensures) (c .before .kind .given .1)
 
 enum-known-next : tie.Need-enum-known-next
 enum-known-next c = search needs
@@ -27,10 +31,19 @@ enum-told-2 : tie.Need-enum-told-2
 enum-told-2 c = search needs
 
 returns-2 : tie.Need-returns-2
-returns-2 c = let a = c .before .before .before .before .before .before .before .before .args in whole-cut (a .s .now) (a .at) (c .before .before .before .before .before .before .head-at .ensures) (c .before .before .before .before .kind .given .1) (c .before .before .spans-end .ensures) (c .enum-told2 .given .1)
+returns-2 c =
+    let a = c .before .before .before .before .before .before .before .before .args in
+    whole-cut (a .s .now) (a .at)
+    (c .before .before .before .before .before .before .head-at .ensures)
+    (c .before .before .before .before .kind .given .1) (c .before .before .spans-end .ensures) (c .enum-told2 .given .1)
 
 returns-3 : tie.Need-returns-3
-returns-3 c = let a = c .before .before .before .before .before .before .before .before .before .args in whole-is (a .s .now) (a .at) (c .before .before .before .before .before .before .before .head-at .ensures) (c .before .before .before .before .before .kind .given .1) (c .before .before .before .spans-end .ensures) (c .before .next .given .1)
+returns-3 c =
+    let a = c .before .before .before .before .before .before .before .before .before .args in
+    whole-is (a .s .now) (a .at)
+    (c .before .before .before .before .before .before .before .head-at .ensures)
+    (c .before .before .before .before .before .kind .given .1)
+    (c .before .before .before .spans-end .ensures) (c .before .next .given .1)
 
 pub whole-at-spec : {M : Type 1} → statement M
 whole-at-spec =

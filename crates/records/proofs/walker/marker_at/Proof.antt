@@ -19,7 +19,10 @@ slice-aggregate-result : tie.Need-slice-aggregate-result
 slice-aggregate-result c = search needs
 
 returns : tie.Need-returns
-returns c = let a = c .before .before .before .before .before .args in marker-bad (a .records .now) (a .at) (whole-bad (a .records .now) (a .at) (c .before .before .before .whole-at .ensures) (c .before .enum-told .given .1))
+returns c =
+    let a = c .before .before .before .before .before .args in
+    marker-bad (a .records .now) (a .at)
+    (whole-bad (a .records .now) (a .at) (c .before .before .before .whole-at .ensures) (c .before .enum-told .given .1))
 
 enum-known-kind-2 : tie.Need-enum-known-kind-2
 enum-known-kind-2 c = search needs
@@ -28,19 +31,39 @@ slice-aggregate-result-2 : tie.Need-slice-aggregate-result-2
 slice-aggregate-result-2 c = search needs
 
 returns-2 : tie.Need-returns-2
-returns-2 c = let a = c .before .before .before .before .before .before .before .args in marker-none (a .records .now) (a .at) (whole-found (a .records .now) (a .at) (c .before .before .before .before .before .whole-at .ensures) (c .before .before .before .kind .given .1)) (c .before .match2 .keys2)
+returns-2 c =
+    let a = c .before .before .before .before .before .before .before .args in
+    marker-none (a .records .now) (a .at)
+    (whole-found (a .records .now) (a .at) (c .before .before .before .before .before .whole-at .ensures) (c .before .before .before .kind .given .1))
+    (c .before .match2 .keys2)
 
 sub-result : tie.Need-sub-result
-sub-result c = let a = c .before .before .before .before .before .before .before .before .args in marker-placed (a .records .now) (a .at) (whole-found (a .records .now) (a .at) (c .before .before .before .before .before .before .whole-at .ensures) (c .before .before .before .before .kind .given .1)) (c .before .kind2 .given .1) .0
+sub-result c =
+    let a = c .before .before .before .before .before .before .before .before .args in
+    marker-placed (a .records .now) (a .at)
+    (whole-found (a .records .now) (a .at) (c .before .before .before .before .before .before .whole-at .ensures) (c .before .before .before .before .kind .given .1))
+    (c .before .kind2 .given .1) .0
 
 part-result-start : tie.Need-part-result-start
-part-result-start c = let a = c .before .before .before .before .before .before .before .before .args in marker-placed (a .records .now) (a .at) (whole-found (a .records .now) (a .at) (c .before .before .before .before .before .before .whole-at .ensures) (c .before .before .before .before .kind .given .1)) (c .before .kind2 .given .1) .0
+part-result-start c =
+    let a = c .before .before .before .before .before .before .before .before .args in
+    marker-placed (a .records .now) (a .at)
+    (whole-found (a .records .now) (a .at) (c .before .before .before .before .before .before .whole-at .ensures) (c .before .before .before .before .kind .given .1))
+    (c .before .kind2 .given .1) .0
 
 part-result-end : tie.Need-part-result-end
-part-result-end c = let a = c .before .before .before .before .before .before .before .before .args in marker-placed (a .records .now) (a .at) (whole-found (a .records .now) (a .at) (c .before .before .before .before .before .before .whole-at .ensures) (c .before .before .before .before .kind .given .1)) (c .before .kind2 .given .1) .1
+part-result-end c =
+    let a = c .before .before .before .before .before .before .before .before .args in
+    marker-placed (a .records .now) (a .at)
+    (whole-found (a .records .now) (a .at) (c .before .before .before .before .before .before .whole-at .ensures) (c .before .before .before .before .kind .given .1))
+    (c .before .kind2 .given .1) .1
 
 returns-3 : tie.Need-returns-3
-returns-3 c = let a = c .before .before .before .before .before .before .before .before .before .args in marker-part (a .records .now) (a .at) (whole-found (a .records .now) (a .at) (c .before .before .before .before .before .before .before .whole-at .ensures) (c .before .before .before .before .before .kind .given .1)) (c .before .before .kind2 .given .1)
+returns-3 c =
+    let a = c .before .before .before .before .before .before .before .before .before .args in
+    marker-part (a .records .now) (a .at)
+    (whole-found (a .records .now) (a .at) (c .before .before .before .before .before .before .before .whole-at .ensures) (c .before .before .before .before .before .kind .given .1))
+    (c .before .before .kind2 .given .1)
 
 pub marker-at-spec : {M : Type 1} → statement M
 marker-at-spec =

@@ -19,13 +19,22 @@ enum-told : tie.Need-enum-told
 enum-told c = search needs
 
 returns-2 : tie.Need-returns-2
-returns-2 c = let a = c .before .before .before .before .before .args in nth-none (a .s .now) (a .at) (a .n) (c .before .before .before .if1 .left) (whole-bad (a .s .now) (a .at) (c .before .before .whole-at .ensures) (c .enum-told .given .1))
+returns-2 c =
+    let a = c .before .before .before .before .before .args in
+    nth-none (a .s .now) (a .at) (a .n) (c .before .before .before .if1 .left)
+    (whole-bad (a .s .now) (a .at) (c .before .before .whole-at .ensures) (c .enum-told .given .1))
 
 returns-3 : tie.Need-returns-3
-returns-3 c = let a = c .before .before .before .before .before .before .before .args in nth-past (a .s .now) (a .at) (a .n) (whole-found (a .s .now) (a .at) (c .before .before .before .before .whole-at .ensures) (c .before .before .count .given .1)) (c .if2 .taken)
+returns-3 c =
+    let a = c .before .before .before .before .before .before .before .args in
+    nth-past (a .s .now) (a .at) (a .n)
+    (whole-found (a .s .now) (a .at) (c .before .before .before .before .whole-at .ensures) (c .before .before .count .given .1))
+    (c .if2 .taken)
 
 spans-end-requires : tie.Need-spans-end-requires
-spans-end-requires c κs = let a = c .before .before .before .before .before .before .before .args in whole-found (a .s .now) (a .at) (c .before .before .before .before .whole-at .ensures) (c .before .before .count .given .1) .starts
+spans-end-requires c κs =
+    let a = c .before .before .before .before .before .before .before .args in
+    whole-found (a .s .now) (a .at) (c .before .before .before .before .whole-at .ensures) (c .before .before .count .given .1) .starts
 
 enum-known-next : tie.Need-enum-known-next
 enum-known-next c = search needs
@@ -34,7 +43,11 @@ enum-told-2 : tie.Need-enum-told-2
 enum-told-2 c = search needs
 
 returns-4 : tie.Need-returns-4
-returns-4 c = let a = c .before .before .before .before .before .before .before .before .before .before .args in nth-cut (a .s .now) (a .at) (a .n) (whole-found (a .s .now) (a .at) (c .before .before .before .before .before .before .before .whole-at .ensures) (c .before .before .before .before .before .count .given .1)) (c .before .before .before .if2 .left) (c .before .before .spans-end .ensures) (c .enum-told2 .given .1)
+returns-4 c =
+    let a = c .before .before .before .before .before .before .before .before .before .before .args in
+    nth-cut (a .s .now) (a .at) (a .n)
+    (whole-found (a .s .now) (a .at) (c .before .before .before .before .before .before .before .whole-at .ensures) (c .before .before .before .before .before .count .given .1))
+    (c .before .before .before .if2 .left) (c .before .before .spans-end .ensures) (c .enum-told2 .given .1)
 
 span-read-requires : tie.Need-span-read-requires
 span-read-requires c κs = search needs
@@ -46,10 +59,23 @@ enum-told-3 : tie.Need-enum-told-3
 enum-told-3 c = search needs
 
 returns-5 : tie.Need-returns-5
-returns-5 c = let a = c .before .before .before .before .before .before .before .before .before .before .before .before .before .before .args in nth-wrong (a .s .now) (a .at) (a .n) (whole-found (a .s .now) (a .at) (c .before .before .before .before .before .before .before .before .before .before .before .whole-at .ensures) (c .before .before .before .before .before .before .before .before .before .count .given .1)) (c .before .before .before .before .before .before .before .if2 .left) (c .before .before .before .before .before .before .spans-end .ensures) (c .before .before .before .before .next .given .1) (c .before .before .span-read .ensures) (c .enum-told3 .given .1)
+returns-5 c =
+    let a = c .before .before .before .before .before .before .before .before .before .before .before .before .before .before .args in
+    nth-wrong (a .s .now) (a .at) (a .n)
+    (whole-found (a .s .now) (a .at) (c .before .before .before .before .before .before .before .before .before .before .before .whole-at .ensures) (c .before .before .before .before .before .before .before .before .before .count .given .1))
+    (c .before .before .before .before .before .before .before .if2 .left)
+    (c .before .before .before .before .before .before .spans-end .ensures)
+    (c .before .before .before .before .next .given .1) (c .before .before .span-read .ensures) (c .enum-told3 .given .1)
 
 returns-6 : tie.Need-returns-6
-returns-6 c = let a = c .before .before .before .before .before .before .before .before .before .before .before .before .before .before .before .args in nth-is (a .s .now) (a .at) (a .n) (whole-found (a .s .now) (a .at) (c .before .before .before .before .before .before .before .before .before .before .before .before .whole-at .ensures) (c .before .before .before .before .before .before .before .before .before .before .count .given .1)) (c .before .before .before .before .before .before .before .before .if2 .left) (c .before .before .before .before .before .before .before .spans-end .ensures) (c .before .before .before .before .before .next .given .1) (c .before .before .before .span-read .ensures) (c .before .bold .given .1)
+returns-6 c =
+    let a = c .before .before .before .before .before .before .before .before .before .before .before .before .before .before .before .args in
+    nth-is (a .s .now) (a .at) (a .n)
+    (whole-found (a .s .now) (a .at) (c .before .before .before .before .before .before .before .before .before .before .before .before .whole-at .ensures) (c .before .before .before .before .before .before .before .before .before .before .count .given .1))
+    (c .before .before .before .before .before .before .before .before .if2 .left)
+    (c .before .before .before .before .before .before .before .spans-end .ensures)
+    (c .before .before .before .before .before .next .given .1)
+    (c .before .before .before .span-read .ensures) (c .before .bold .given .1)
 
 pub nth-at-spec : {M : Type 1} → statement M
 nth-at-spec =

@@ -18,13 +18,19 @@ enum-told-2 : tie.Need-enum-told-2
 enum-told-2 c = search needs
 
 returns : tie.Need-returns
-returns c = let a = c .before .before .before .before .before .args in span-case (a .records .now) (a .at) (a .n) (c .before .before .before .nth-at .ensures) (c .before .bold .given .1)
+returns c =
+    let a = c .before .before .before .before .before .args in
+    span-case (a .records .now) (a .at) (a .n) (c .before .before .before .nth-at .ensures) (c .before .bold .given .1)
 
 returns-2 : tie.Need-returns-2
-returns-2 c = let a = c .before .before .before .before .args in span-case (a .records .now) (a .at) (a .n) (c .before .before .nth-at .ensures) (c .enum-told .given .1)
+returns-2 c =
+    let a = c .before .before .before .before .args in
+    span-case (a .records .now) (a .at) (a .n) (c .before .before .nth-at .ensures) (c .enum-told .given .1)
 
 returns-3 : tie.Need-returns-3
-returns-3 c = let a = c .before .before .before .before .args in span-case (a .records .now) (a .at) (a .n) (c .before .before .nth-at .ensures) (c .enum-told2 .given .1)
+returns-3 c =
+    let a = c .before .before .before .before .args in
+    span-case (a .records .now) (a .at) (a .n) (c .before .before .nth-at .ensures) (c .enum-told2 .given .1)
 
 pub span-at-spec : {M : Type 1} → statement M
 span-at-spec =

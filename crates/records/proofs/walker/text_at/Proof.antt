@@ -15,19 +15,29 @@ slice-aggregate-result : tie.Need-slice-aggregate-result
 slice-aggregate-result c = search needs
 
 returns : tie.Need-returns
-returns c = let a = c .before .before .before .before .args in text-none (a .records .now) (a .at) (a .n) (c .before .before .nth-at .ensures) (c .before .match .keys2)
+returns c =
+    let a = c .before .before .before .before .args in
+    text-none (a .records .now) (a .at) (a .n) (c .before .before .nth-at .ensures) (c .before .match .keys2)
 
 sub-result : tie.Need-sub-result
-sub-result c = let a = c .before .before .before .before .before .args in text-placed (a .records .now) (a .at) (a .n) (c .before .before .before .nth-at .ensures) (c .before .start .given .1) .0
+sub-result c =
+    let a = c .before .before .before .before .before .args in
+    text-placed (a .records .now) (a .at) (a .n) (c .before .before .before .nth-at .ensures) (c .before .start .given .1) .0
 
 part-result-start : tie.Need-part-result-start
-part-result-start c = let a = c .before .before .before .before .before .args in text-placed (a .records .now) (a .at) (a .n) (c .before .before .before .nth-at .ensures) (c .before .start .given .1) .0
+part-result-start c =
+    let a = c .before .before .before .before .before .args in
+    text-placed (a .records .now) (a .at) (a .n) (c .before .before .before .nth-at .ensures) (c .before .start .given .1) .0
 
 part-result-end : tie.Need-part-result-end
-part-result-end c = let a = c .before .before .before .before .before .args in text-placed (a .records .now) (a .at) (a .n) (c .before .before .before .nth-at .ensures) (c .before .start .given .1) .1
+part-result-end c =
+    let a = c .before .before .before .before .before .args in
+    text-placed (a .records .now) (a .at) (a .n) (c .before .before .before .nth-at .ensures) (c .before .start .given .1) .1
 
 returns-2 : tie.Need-returns-2
-returns-2 c = let a = c .before .before .before .before .before .before .args in text-part (a .records .now) (a .at) (a .n) (c .before .before .before .before .nth-at .ensures) (c .before .before .start .given .1)
+returns-2 c =
+    let a = c .before .before .before .before .before .before .args in
+    text-part (a .records .now) (a .at) (a .n) (c .before .before .before .before .nth-at .ensures) (c .before .before .start .given .1)
 
 pub text-at-spec : {M : Type 1} → statement M
 text-at-spec =
