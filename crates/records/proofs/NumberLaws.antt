@@ -1,0 +1,46 @@
+-- The number and values of an answer determine its case: a contract that goes through them leaves no choice of the enum's value.
+-- Assumes nothing.
+use Prim.Native.Nat.{ℕ}
+use mathlib.Core.Path.{_≡_, refl, sym, ap, _∙_}
+use mathlib.Core.Option.{Option, none, some}
+use Rattle.records.specs.Answers.{Answer, at-end, refused, gives, BlockValues, Emphasis}
+use Rattle.records.specs.Numbers.{block-values, span-values}
+use Rattle.records.specs.declared.walker.BlockAnswer.{BlockAnswer}
+use Rattle.records.specs.declared.walker.BlockAnswer.the-variants as B
+use Rattle.records.specs.declared.walker.SpanAnswer.{SpanAnswer}
+use Rattle.records.specs.declared.walker.SpanAnswer.the-variants as S
+
+block-of : Option ℕ → Option ℕ → ℕ → ℕ → BlockAnswer
+block-of (some l) d n next = B.Heading l n next
+block-of none (some d) n next = B.Item d n next
+block-of none none n next = B.Paragraph n next
+
+block-case : Answer BlockValues → BlockAnswer
+block-case at-end = B.End
+block-case (refused n) = B.Bad
+block-case (gives v) = block-of (v .level) (v .depth) (v .count) (v .next)
+
+block-back : (r : BlockAnswer) → block-case (block-values r) ≡ r
+unfolding block-case block-of
+block-back (B.Heading l n next) = refl
+block-back (B.Paragraph n next) = refl
+block-back (B.Item d n next) = refl
+block-back B.End = refl
+block-back B.Bad = refl
+
+pub block-values-one : (q r : BlockAnswer) → block-values q ≡ block-values r → q ≡ r
+block-values-one q r e = sym (block-back q) ∙ ap block-case e ∙ block-back r
+
+span-case : Answer Emphasis → SpanAnswer
+span-case at-end = S.End
+span-case (refused n) = S.Bad
+span-case (gives v) = S.Span (v .bold) (v .italic) (v .code)
+
+span-back : (r : SpanAnswer) → span-case (span-values r) ≡ r
+unfolding span-case
+span-back (S.Span b i c) = refl
+span-back S.End = refl
+span-back S.Bad = refl
+
+pub span-values-one : (q r : SpanAnswer) → span-values q ≡ span-values r → q ≡ r
+span-values-one q r e = sym (span-back q) ∙ ap span-case e ∙ span-back r
