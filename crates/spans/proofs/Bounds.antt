@@ -1,0 +1,60 @@
+-- How long the records of a line's spans are: in bytes, for each turn and for a whole line.
+-- Assumes nothing.
+use mathlib.Core.Path.{_≡_, refl, sym, ap, _∙_}
+use Prim.Native.Nat.{ℕ, zero, suc, _+_, _*_, _≤_}
+use native.Mathlib.Omega.{arith}
+use mathlib.Core.Bool.{Bool}
+use mathlib.Core.List.{List, [], _∷_, _++_}
+use lib.ListN.{length, take, length-append, length-take}
+use Rattle.text.specs.Utf8.{utf8, encode, size}
+use Rattle.text.proofs.Laws.{utf8-size}
+use Rattle.records.specs.Blocks.{Span}
+use Rattle.records.specs.Format.{encode-text, encode-span, encode-spans}
+use Rattle.spans.specs.Spans.{Walk, step, spans}
+use Rattle.spans.specs.Turn.{Turn, turned, text-form, record-of, records-of}
+use Rattle.spans.proofs.Turns.{weigh, texts, Fits, Good, spans-fits, turn-fits}
+
+-- ---- bytes: each weighs 1
+
+abbrev one : ℕ → ℕ
+one c = 1
+
+weigh-one : (s : List ℕ) → weigh one s ≡ length s
+weigh-one [] = refl
+weigh-one (c ∷ s) = omega (arith, weigh-one s)
+
+some-one : (c : ℕ) → 1 ≤ one c
+some-one c = omega arith
+
+form-long : (t : List ℕ) → length (text-form t) ≤ 4 + weigh one t
+form-long [] = omega arith
+form-long (c ∷ t) = omega (arith, weigh-one t)
+
+rec-long : (b i : Bool) (ss : List Span) → length (records-of b i ss) ≤ 5 * length ss + texts one ss
+unfolding records-of
+rec-long b i [] = omega arith
+rec-long b i (s ∷ ss) = omega (arith, rec-long b i ss, length-append (text-form (s .text)) (records-of b i ss), form-long (s .text))
+
+pub turn-within : (w : Walk) (c : ℕ) (s : List ℕ) → turned spans w s (step w c s) .more ≤ length s
+turn-within w c s = turn-fits one some-one w c s .within
+
+pub turn-small : (b i : Bool) (w : Walk) (c : ℕ) (s : List ℕ)
+    → length (records-of b i (turned spans w s (step w c s) .spans)) + 6 * length (turned spans w s (step w c s) .walk .text)
+    ≤ 6 * length (w .text) + 6 * (1 + turned spans w s (step w c s) .more)
+turn-small b i w c s =
+    let t : Turn = turned spans w s (step w c s) in
+    let g = turn-fits one some-one w c s in
+    omega (
+      arith,
+      rec-long b i (t .spans),
+      g .fits .small,
+      g .within,
+      weigh-one (t .walk .text),
+      weigh-one (w .text),
+      weigh-one (take (t .more) s),
+      length-take (t .more) s,
+    )
+
+-- the records of a line's spans, with any emphasis around them, are at most six times as long as its bytes
+pub spans-small : (b i : Bool) (line : List ℕ) → length (records-of b i (spans line)) ≤ 6 * length line
+spans-small b i line = omega (arith, rec-long b i (spans line), spans-fits one some-one line .small, weigh-one line)
