@@ -1,2 +1,7 @@
 pub mod Blocks
 pub mod Format
+pub mod Decode
+pub mod Answers
+pub mod Readers
+pub mod Numbers
+pub mod Walk

@@ -1,0 +1,68 @@
+-- A record is bytes.
+-- Assumes nothing.
+use Prim.Native.Nat.{ℕ, zero, suc, _+_, _/_, _%_, _<_, _≤_}
+use native.Mathlib.Omega.{arith}
+use mathlib.Core.Bool.{Bool, true, false}
+use mathlib.Core.List.{List, [], _∷_, _++_}
+use lib.ListN.{length}
+use Rattle.text.specs.Utf8.{Scalars, encode, size}
+use Rattle.records.specs.Blocks.{Span, Kind, heading, paragraph, item, Block}
+use Rattle.records.specs.Format.{le16, le32, bit, non-empty, encode-text, encode-span, encode-spans, kind-bits, encode-kind, encode-count, encode-block, encode-blocks, WfSpan, WfSpans, WfKind, WfBlock, WfBlocks}
+use Rattle.records.specs.Decode.{Bytes}
+use Rattle.records.proofs.TextMore.{bytes-append, bytes-encode}
+use Rattle.records.proofs.Markers.{marker-scalars, marker-short}
+
+bytes-le16 : (n : ℕ) → Bytes (le16 n)
+bytes-le16 n = (omega arith, (omega arith, tt))
+
+bytes-le32 : (n : ℕ) → Bytes (le32 n)
+bytes-le32 n = (omega arith, (omega arith, (omega arith, (omega arith, tt))))
+
+bit-small : (b : Bool) (v : ℕ) → bit b v ≤ v
+bit-small true v = omega arith
+bit-small false v = omega arith
+
+bytes-text : (cs : List ℕ) → Scalars cs → Bytes (encode-text cs)
+bytes-text [] w = tt
+bytes-text (c ∷ cs) w = bytes-append (le32 (size (c ∷ cs))) (encode (c ∷ cs)) (bytes-le32 (size (c ∷ cs))) (bytes-encode (c ∷ cs) w)
+
+bytes-span : (x : Span) → WfSpan x → Bytes (encode-span x)
+unfolding encode-span
+bytes-span x w =
+    let a = bit-small (x .bold) 1 in
+    let b = bit-small (x .italic) 2 in
+    let c = bit-small (x .code) 4 in
+    let d = bit-small (non-empty (x .text)) 8 in
+    (omega arith, bytes-text (x .text) (w .scalars))
+
+bytes-spans : (xs : List Span) → WfSpans xs → Bytes (encode-spans xs)
+unfolding encode-spans
+bytes-spans [] w = tt
+bytes-spans (x ∷ xs) w = bytes-append (encode-span x) (encode-spans xs) (bytes-span x (w .0)) (bytes-spans xs (w .1))
+
+bytes-kind : (k : Kind) → WfKind k → (kind-bits k ≤ 6) × Bytes (encode-kind k)
+bytes-kind (heading l) w = let h : l ≤ 3 = w .1 in (omega arith, (omega arith, tt))
+bytes-kind paragraph w = (omega arith, tt)
+bytes-kind (item zero m) w =
+    let h = marker-short m (w .1) in
+    (omega arith, (omega arith, bytes-encode m (marker-scalars m (w .1))))
+bytes-kind (item (suc d) m) w =
+    let h = marker-short m (w .1) in
+    (omega arith, bytes-append (le16 (suc d)) (size m ∷ encode m) (bytes-le16 (suc d)) (omega arith, bytes-encode m (marker-scalars m (w .1))))
+
+bytes-count : (n : ℕ) → Bytes (encode-count n)
+bytes-count zero = tt
+bytes-count (suc n) = bytes-le32 (suc n)
+
+bytes-block : (b : Block) → WfBlock b → Bytes (encode-block b)
+unfolding encode-block
+bytes-block b w =
+    let k = bytes-kind (b .kind) (w .kind) in
+    let d = bit-small (non-empty (b .spans)) 8 in
+    let l : kind-bits (b .kind) ≤ 6 = k .0 in
+    (omega arith, bytes-append (encode-kind (b .kind) ++ encode-count (length (b .spans))) (encode-spans (b .spans)) (bytes-append (encode-kind (b .kind)) (encode-count (length (b .spans))) (k .1) (bytes-count (length (b .spans)))) (bytes-spans (b .spans) (w .spans)))
+
+pub bytes-blocks : (bs : List Block) → WfBlocks bs → Bytes (encode-blocks bs)
+unfolding encode-blocks
+bytes-blocks [] w = tt
+bytes-blocks (b ∷ bs) w = bytes-append (encode-block b) (encode-blocks bs) (bytes-block b (w .0)) (bytes-blocks bs (w .1))

@@ -1,0 +1,15 @@
+pub mod TextMore
+pub mod Front
+pub mod Markers
+pub mod Encoded
+pub mod EncodedBytes
+pub mod Decoded
+pub mod RoundTrip
+pub mod Spans
+pub mod Heads
+pub mod Blocks
+pub mod WalkerLaws
+pub mod Walked
+pub mod Stores
+pub mod Held
+pub mod Examples

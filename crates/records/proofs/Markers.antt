@@ -1,0 +1,116 @@
+-- Markers: tested by their bytes, defined by their characters.
+-- Assumes nothing.
+use Prim.Native.Nat.{ℕ, zero, suc, _+_, _-_, _<_, _≤_}
+use native.Mathlib.Omega.{arith}
+use mathlib.Core.Path.{_≡_, refl, sym, ap, _∙_}
+use mathlib.Core.Bool.{Bool, true, false, _&&_, _||_, false≢true}
+use mathlib.Core.Logic.{inl, inr, ⊎-elim}
+use mathlib.Core.List.{List, [], _∷_}
+use lib.ListN.{length, drop, getD, drop-of-length-le}
+use lib.Dec.{leb, eqb, lit<}
+use borrow.Author.Tests.{eqb-true, eq-eqb, ne-eqb, leb-true}
+use Rattle.text.specs.Words.{same, str}
+use Rattle.text.specs.Chars.{is-digit}
+use Rattle.text.specs.Utf8.{Scalars, utf8, encode, size, chars}
+use Rattle.text.proofs.Tests.{and-true, or-elim, within-true}
+use Rattle.text.proofs.Laws.{encode-chars}
+use Rattle.text.proofs.AsciiLaws.{Ascii, encode-ascii}
+use Rattle.records.specs.Format.{is-bullet, digits-stop, is-ordinal, is-marker}
+use Rattle.records.proofs.TextMore.{test-iff, same-true, same-encode, scalars-ascii, chars-same, size-encode}
+use Rattle.records.proofs.Front.{front, front2}
+
+bullet-scalar : Scalars (str "•")
+bullet-scalar = (inl (omega arith), tt)
+
+bullet-bytes : (m : List ℕ) → is-bullet (chars m) ≡ same m (226 ∷ 128 ∷ 162 ∷ [])
+unfolding utf8
+bullet-bytes m = same-encode m (str "•") bullet-scalar
+
+and-last : (b : Bool) → b && true ≡ b
+and-last true = refl
+and-last false = refl
+
+bullet-same : (m : List ℕ) → length m ≡ 3 → same m (226 ∷ 128 ∷ 162 ∷ []) ≡ (eqb (getD m 0 0) 226 && (eqb (getD m 1 0) 128 && eqb (getD m 2 0) 162))
+bullet-same [] h = absurd (omega arith)
+bullet-same (a ∷ []) h = absurd (omega arith)
+bullet-same (a ∷ b ∷ []) h = absurd (omega arith)
+bullet-same (a ∷ b ∷ c ∷ []) h = ap (λ (t : Bool). eqb a 226 && (eqb b 128 && t)) (and-last (eqb c 162))
+bullet-same (a ∷ b ∷ c ∷ d ∷ s) h = absurd (omega arith)
+
+bullet-of : (m : List ℕ) → length m ≡ 3 → is-bullet (chars m) ≡ (eqb (getD m 0 0) 226 && (eqb (getD m 1 0) 128 && eqb (getD m 2 0) 162))
+bullet-of m h = bullet-bytes m ∙ bullet-same m h
+
+module _ (m : List ℕ) (h : length m ≡ 3) where
+  pub bullet-first : (getD m 0 0 ≡ 226 → ⊥) → is-bullet (chars m) ≡ false
+  bullet-first n = bullet-of m h ∙ rw (ne-eqb (getD m 0 0) 226 n)
+
+  module _ (e : getD m 0 0 ≡ 226) where
+    pub bullet-second : (getD m 1 0 ≡ 128 → ⊥) → is-bullet (chars m) ≡ false
+    bullet-second n = bullet-of m h ∙ rw (eq-eqb (getD m 0 0) 226 e, ne-eqb (getD m 1 0) 128 n)
+
+    pub bullet-third : getD m 1 0 ≡ 128 → is-bullet (chars m) ≡ eqb (getD m 2 0) 162
+    bullet-third f = bullet-of m h ∙ rw (eq-eqb (getD m 0 0) 226 e, eq-eqb (getD m 1 0) 128 f)
+
+pub bullet-not : (m : List ℕ) → (length m ≡ 3 → ⊥) → is-bullet (chars m) ≡ false
+bullet-not m h = bullet-bytes m ∙ test-iff (same m (226 ∷ 128 ∷ 162 ∷ [])) false (λ e. absurd (h (ap length (same-true m (226 ∷ 128 ∷ 162 ∷ []) e)))) (λ e. absurd (false≢true e))
+
+digits-ascii : (m : List ℕ) → digits-stop m ≡ true → Ascii m
+digits-ascii [] e = absurd (false≢true e)
+digits-ascii (c ∷ []) e = let h : c ≡ 46 = eqb-true c 46 e in (omega arith, tt)
+digits-ascii (c ∷ d ∷ s) e =
+    let p = and-true (is-digit c) (digits-stop (d ∷ s)) e in
+    let h = within-true 48 57 c (p .0) in
+    (omega arith, digits-ascii (d ∷ s) (p .1))
+
+ordinal-ascii : (m : List ℕ) → is-ordinal m ≡ true → Ascii m
+ordinal-ascii m e = digits-ascii m (and-true (leb 2 (length m) && leb (length m) 10) (digits-stop m) e .1)
+
+ordinal-chars : (m : List ℕ) → is-ordinal (chars m) ≡ is-ordinal m
+ordinal-chars m =
+    test-iff (is-ordinal (chars m)) (is-ordinal m)
+    (λ e. let p : chars m ≡ m = sym (encode-ascii (chars m) (ordinal-ascii (chars m) e)) ∙ encode-chars m in ap is-ordinal (sym p) ∙ e)
+    (λ e. ap is-ordinal (chars-same m (ordinal-ascii m e)) ∙ e)
+
+pub marker-scalars : (m : List ℕ) → is-marker m ≡ true → Scalars m
+unfolding is-marker
+marker-scalars m =
+    or-elim (is-bullet m) (is-ordinal m)
+    (λ e. rw (same-true m (str "•") e) bullet-scalar)
+    (λ e. scalars-ascii m (ordinal-ascii m e))
+
+ordinal-short : (m : List ℕ) → is-ordinal m ≡ true → size m ≤ 10
+ordinal-short m e =
+    let p = and-true (leb 2 (length m)) (leb (length m) 10) (and-true (leb 2 (length m) && leb (length m) 10) (digits-stop m) e .0) in
+    let h = leb-true (length m) 10 (p .1) in
+    rw (size-encode m, encode-ascii m (ordinal-ascii m e)) h
+
+-- a marker's length fits a byte
+pub marker-short : (m : List ℕ) → is-marker m ≡ true → size m ≤ 10
+unfolding is-marker size utf8
+marker-short m =
+    or-elim (is-bullet m) (is-ordinal m)
+    (λ e. rw (same-true m (str "•") e) (omega arith))
+    (λ e. ordinal-short m e)
+
+-- the test of the bytes
+pub marker-bullet : (m : List ℕ) → is-bullet (chars m) ≡ true → is-marker (chars m) ≡ true
+unfolding is-marker
+marker-bullet m e = rw e
+
+pub marker-ordinal : (m : List ℕ) → is-bullet (chars m) ≡ false → is-marker (chars m) ≡ is-ordinal m
+unfolding is-marker
+marker-ordinal m e = rw (e, ordinal-chars m)
+
+module _ (m : List ℕ) (i : ℕ) (h : i + 2 ≤ length m) where
+  pub stop-step : is-digit (getD m i 0) ≡ true → digits-stop (drop (i + 1) m) ≡ digits-stop (drop i m)
+  stop-step d = rw (front m i (omega arith), front m (i + 1) (omega arith), d)
+
+  pub stop-bad : is-digit (getD m i 0) ≡ false → digits-stop (drop i m) ≡ false
+  stop-bad d = rw (front2 m i h, d)
+
+pub stop-last : (m : List ℕ) → 1 ≤ length m → digits-stop (drop (length m - 1) m) ≡ eqb (getD m (length m - 1) 0) 46
+stop-last m h = rw (front m (length m - 1) (omega arith), drop-of-length-le m {i = length m - 1 + 1} (omega arith))
+
+pub stop-none : (m : List ℕ) → length m ≡ 0 → digits-stop m ≡ false
+stop-none [] e = refl
+stop-none (a ∷ m) e = absurd (omega arith)

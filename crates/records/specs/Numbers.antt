@@ -1,0 +1,20 @@
+-- Document 01's number and values for each case of the walker's enums ("Where each call says no": 7).
+-- Assumes nothing.
+use mathlib.Core.Option.{none, some}
+use Rattle.records.specs.Answers.{Answer, at-end, refused, gives, BlockValues, Emphasis}
+use Rattle.records.specs.declared.walker.BlockAnswer.{BlockAnswer}
+use Rattle.records.specs.declared.walker.BlockAnswer.the-variants as B
+use Rattle.records.specs.declared.walker.SpanAnswer.{SpanAnswer}
+use Rattle.records.specs.declared.walker.SpanAnswer.the-variants as S
+
+abbrev pub block-values : BlockAnswer → Answer BlockValues
+block-values (B.Heading l n next) = gives (record { level = some l; depth = none; count = n; next = next })
+block-values (B.Paragraph n next) = gives (record { level = none; depth = none; count = n; next = next })
+block-values (B.Item d n next) = gives (record { level = none; depth = some d; count = n; next = next })
+block-values B.End = at-end
+block-values B.Bad = refused 7
+
+abbrev pub span-values : SpanAnswer → Answer Emphasis
+span-values (S.Span b i c) = gives (record { bold = b; italic = i; code = c })
+span-values S.End = at-end
+span-values S.Bad = refused 7

@@ -1,0 +1,114 @@
+// The fields of a record that are not its own structure: integers and markers.
+ghost use mathlib.Core.Path.{_≡_};
+ghost use Prim.Native.Nat.{_<_};
+ghost use lib.ListN.{drop};
+ghost use Rattle.text.specs.Chars.{is-digit};
+ghost use Rattle.text.specs.Utf8.{chars};
+ghost use Rattle.records.specs.Format.{is-bullet, digits-stop, is-marker};
+ghost use Rattle.records.specs.Decode.{u16, u32};
+ghost use Rattle.records.specs.Readers.{NumberIs};
+
+// A number, and the offset after it.
+pub(crate) enum Number {
+    Value { value: usize, next: usize },
+    Bad,
+}
+
+// A byte as a number.
+pub(crate) fn wide(b: u8) -> usize
+    ensures { λ r. ⌜ (r ≡ b) × (r < 256) ⌝ }
+{
+    b as usize
+}
+
+// Two bytes, the lower first.
+pub(crate) fn u16_at(s: &[u8], at: usize) -> Number
+    ensures { λ r. ⌜ NumberIs (u16 (drop at (now (s .entry)))) (now (s .entry)) r ⌝ }
+{
+    if s.len() <= at {
+        return Number::Bad;
+    }
+    if s.len() - at < 2 {
+        return Number::Bad;
+    }
+    let a = wide(s[at]);
+    let b = wide(s[at + 1]);
+    Number::Value {
+        value: a + 256 * b,
+        next: at + 2,
+    }
+}
+
+// Four bytes, the lowest first.
+pub(crate) fn u32_at(s: &[u8], at: usize) -> Number
+    ensures { λ r. ⌜ NumberIs (u32 (drop at (now (s .entry)))) (now (s .entry)) r ⌝ }
+{
+    if s.len() <= at {
+        return Number::Bad;
+    }
+    if s.len() - at < 4 {
+        return Number::Bad;
+    }
+    let a = wide(s[at]);
+    let b = wide(s[at + 1]);
+    let c = wide(s[at + 2]);
+    let d = wide(s[at + 3]);
+    Number::Value {
+        value: a + 256 * b + 65536 * c + 16777216 * d,
+        next: at + 4,
+    }
+}
+
+// Whether these are the three bytes of U+2022.
+fn is_bullet(m: &[u8]) -> bool
+    ensures { λ r. ⌜ r ≡ is-bullet (chars (now (m .entry))) ⌝ }
+{
+    if m.len() == 3 {
+        if m[0] == 226 {
+            if m[1] == 128 {
+                return m[2] == 162;
+            }
+        }
+    }
+    false
+}
+
+fn is_digit(b: u8) -> bool
+    ensures { λ r. ⌜ r ≡ is-digit b ⌝ }
+{
+    (48 <= b) & (b <= 57)
+}
+
+// Digits, and a full stop at the end.
+fn digits_stop(m: &[u8]) -> bool
+    ensures { λ r. ⌜ r ≡ digits-stop (now (m .entry)) ⌝ }
+{
+    if m.len() == 0 {
+        return false;
+    }
+    let last = m.len() - 1;
+    let mut i: usize = 0;
+    while i < last {
+        if !is_digit(m[i]) {
+            return false;
+        }
+        i += 1;
+    }
+    m[last] == 46
+}
+
+// U+2022, or 1 to 9 digits and a full stop.
+pub(crate) fn is_marker(m: &[u8]) -> bool
+    ensures { λ r. ⌜ r ≡ is-marker (chars (now (m .entry))) ⌝ }
+{
+    if is_bullet(m) {
+        return true;
+    }
+    if m.len() < 2 {
+        return false;
+    }
+    if 10 < m.len() {
+        return false;
+    }
+    digits_stop(m)
+}

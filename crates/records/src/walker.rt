@@ -1,0 +1,224 @@
+// The walker: what stands at an offset of lent records. Numbers and texts come from separate calls; a text is a part of the
+// records, and empty where there is none.
+ghost use mathlib.Core.Path.{_≡_};
+ghost use Rattle.text.specs.Utf8.{encode};
+ghost use Rattle.records.specs.Answers.{block-answer, marker-answer, span-answer, text-answer};
+ghost use Rattle.records.specs.Numbers.{block-values, span-values};
+ghost use Rattle.records.specs.Readers.{NthIs};
+use crate::reader::Kind;
+use crate::reader::SpanRead;
+use crate::reader::SpansEnd;
+use crate::reader::Whole;
+use crate::reader::span_read;
+use crate::reader::spans_end;
+use crate::reader::whole_at;
+
+// What the walker finds at an offset. Bad is number 7.
+pub enum BlockAnswer {
+    Heading {
+        level: usize,
+        count: usize,
+        next: usize,
+    },
+    Paragraph {
+        count: usize,
+        next: usize,
+    },
+    Item {
+        depth: usize,
+        count: usize,
+        next: usize,
+    },
+    End,
+    Bad,
+}
+
+pub fn block_at(records: &[u8], at: usize) -> BlockAnswer
+    ensures { λ r. ⌜ block-values r ≡ block-answer (now (records .entry)) at ⌝ }
+{
+    if at == records.len() {
+        return BlockAnswer::End;
+    }
+    let Whole::At {
+        kind,
+        count,
+        first: _,
+        next,
+    } = whole_at(records, at)
+    else {
+        return BlockAnswer::Bad;
+    };
+    match kind {
+        Kind::Heading { level } => BlockAnswer::Heading { level, count, next },
+        Kind::Paragraph => BlockAnswer::Paragraph { count, next },
+        Kind::Item {
+            depth,
+            start: _,
+            end: _,
+        } => BlockAnswer::Item { depth, count, next },
+    }
+}
+
+// The marker of the item at an offset; empty where there is none.
+pub fn marker_at(records: &[u8], at: usize) -> &[u8]
+    ensures { λ r. ⌜ now r ≡ encode (marker-answer (now (records .entry)) at) ⌝ }
+{
+    let Whole::At {
+        kind,
+        count: _,
+        first: _,
+        next: _,
+    } = whole_at(records, at)
+    else {
+        return &records[..0];
+    };
+    let Kind::Item {
+        depth: _,
+        start,
+        end,
+    } = kind
+    else {
+        return &records[..0];
+    };
+    &records[start..end]
+}
+
+// A span of a block, with its text's place.
+pub(crate) enum Nth {
+    At {
+        bold: bool,
+        italic: bool,
+        code: bool,
+        start: usize,
+        end: usize,
+    },
+    End,
+    Bad,
+}
+
+fn nth_at(s: &[u8], at: usize, n: usize) -> Nth
+    ensures { λ r. ⌜ NthIs (now (s .entry)) at n r ⌝ }
+{
+    if at == s.len() {
+        return Nth::End;
+    }
+    let Whole::At {
+        kind: _,
+        count,
+        first,
+        next: _,
+    } = whole_at(s, at)
+    else {
+        return Nth::Bad;
+    };
+    if count <= n {
+        return Nth::End;
+    }
+    let SpansEnd::At { next } = spans_end(s, first, n) else {
+        return Nth::Bad;
+    };
+    let SpanRead::At {
+        bold,
+        italic,
+        code,
+        start,
+        end,
+    } = span_read(s, next)
+    else {
+        return Nth::Bad;
+    };
+    Nth::At {
+        bold,
+        italic,
+        code,
+        start,
+        end,
+    }
+}
+
+// What the walker finds of a span. Bad is number 7.
+pub enum SpanAnswer {
+    Span {
+        bold: bool,
+        italic: bool,
+        code: bool,
+    },
+    End,
+    Bad,
+}
+
+pub fn span_at(records: &[u8], at: usize, n: usize) -> SpanAnswer
+    ensures { λ r. ⌜ span-values r ≡ span-answer (now (records .entry)) at n ⌝ }
+{
+    match nth_at(records, at, n) {
+        Nth::At {
+            bold,
+            italic,
+            code,
+            start: _,
+            end: _,
+        } => SpanAnswer::Span { bold, italic, code },
+        Nth::End => SpanAnswer::End,
+        Nth::Bad => SpanAnswer::Bad,
+    }
+}
+
+// The text of a span; empty where there is none.
+pub fn text_at(records: &[u8], at: usize, n: usize) -> &[u8]
+    ensures { λ r. ⌜ now r ≡ encode (text-answer (now (records .entry)) at n) ⌝ }
+{
+    let Nth::At {
+        bold: _,
+        italic: _,
+        code: _,
+        start,
+        end,
+    } = nth_at(records, at, n)
+    else {
+        return &records[..0];
+    };
+    &records[start..end]
+}
+
+// The walker: the lent records and an offset. Its functions take it apart and call those above.
+pub struct Walker<'a> {
+    pub records: &'a [u8],
+    pub at: usize,
+}
+
+impl<'a> Walker<'a> {
+    // At an offset; 0 is that of the first block.
+    pub fn new(records: &'a [u8], at: usize) -> Walker<'a>
+        ensures { λ r. ⌜ (r .records ≡ records .entry) × (r .at ≡ at) ⌝ }
+    {
+        Walker { records, at }
+    }
+
+    // The block at the offset.
+    pub fn block(self) -> BlockAnswer
+        ensures { λ r. ⌜ block-values r ≡ block-answer (now (self .entry .records)) (self .entry .at) ⌝ }
+    {
+        block_at(self.records, self.at)
+    }
+
+    // The marker of the item there, a part of the records.
+    pub fn marker(self) -> &'a [u8]
+        ensures { λ r. ⌜ now r ≡ encode (marker-answer (now (self .entry .records)) (self .entry .at)) ⌝ }
+    {
+        marker_at(self.records, self.at)
+    }
+
+    // The text of a span there, a part of the records.
+    pub fn text(self, n: usize) -> &'a [u8]
+        ensures { λ r. ⌜ now r ≡ encode (text-answer (now (self .entry .records)) (self .entry .at) n) ⌝ }
+    {
+        text_at(self.records, self.at, n)
+    }
+}
+
+// The block at an offset, through the struct: a caller needs the records and a number alone.
+pub fn walk(records: &[u8], at: usize) -> BlockAnswer
+    ensures { λ r. ⌜ block-values r ≡ block-answer (now (records .entry)) at ⌝ }
+{
+    Walker::new(records, at).block()
+}

@@ -1,0 +1,66 @@
+// Storing record bytes into a lent buffer. An offset may lie past the buffer's end: what falls into the buffer is stored, and the
+// rest is not, so a writer needs no case for a full buffer and sees at its end whether all of it fitted.
+ghost use mathlib.Core.Path.{_≡_};
+ghost use mathlib.Core.List.{[], _∷_};
+ghost use lib.ListN.{length, replicate};
+ghost use lib.Seq.{sets};
+ghost use Rattle.records.specs.Format.{le16, le32};
+
+// One byte.
+pub fn put(out: &mut [u8], at: usize, b: u8)
+    ensures { λ _. ⌜ now (out .exit) ≡ sets (now (out .entry)) at (b ∷ []) ⌝ }
+{
+    if at < out.len() {
+        out[at] = b;
+    }
+}
+
+// The bytes of s.
+pub fn put_bytes(out: &mut [u8], at: usize, s: &[u8])
+    ensures { λ _. ⌜ now (out .exit) ≡ sets (now (out .entry)) at (now (s .entry)) ⌝ }
+{
+    if out.len() <= at {
+        return;
+    }
+    let room = out.len() - at;
+    let mut i: usize = 0;
+    while i < s.len() {
+        if room <= i {
+            return;
+        }
+        out[at + i] = s[i];
+        i += 1;
+    }
+}
+
+// The two lower bytes of n, the lower first.
+pub fn put_u16(out: &mut [u8], at: usize, n: usize)
+    ensures { λ _. ⌜ now (out .exit) ≡ sets (now (out .entry)) at (le16 n) ⌝ }
+{
+    let bytes: [u8; 2] = [(n % 256) as u8, (n / 256 % 256) as u8];
+    put_bytes(out, at, &bytes);
+}
+
+// The four lower bytes of n, the lowest first.
+pub fn put_u32(out: &mut [u8], at: usize, n: usize)
+    ensures { λ _. ⌜ now (out .exit) ≡ sets (now (out .entry)) at (le32 n) ⌝ }
+{
+    let bytes: [u8; 4] = [
+        (n % 256) as u8,
+        (n / 256 % 256) as u8,
+        (n / 65536 % 256) as u8,
+        (n / 16777216 % 256) as u8,
+    ];
+    put_bytes(out, at, &bytes);
+}
+
+// All zero, as a refusal for want of room leaves the result.
+pub fn clear(out: &mut [u8])
+    ensures { λ _. ⌜ now (out .exit) ≡ replicate (length (now (out .entry))) 0 ⌝ }
+{
+    let mut i: usize = 0;
+    while i < out.len() {
+        out[i] = 0;
+        i += 1;
+    }
+}
