@@ -1,5 +1,4 @@
 pub mod Search
-pub mod Stores
 pub mod Records
 pub mod SpanLaws
 pub mod Turns

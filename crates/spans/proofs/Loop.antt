@@ -18,7 +18,7 @@ use Rattle.spans.specs.declared.State.{State}
 use Rattle.spans.specs.declared.Written.{Written}
 use Rattle.spans.proofs.Search.{Linked}
 use Rattle.spans.proofs.SpanLaws.{walk-end, walk-next, spans-eq}
-use Rattle.spans.proofs.Stores.{sets-append}
+use Rattle.records.proofs.Stores.{sets-append}
 use Rattle.spans.proofs.Records.{rec-append, rec-carry, rec-count}
 use Rattle.spans.proofs.Bounds.{turn-within, turn-small, spans-small}
 use Rattle.spans.proofs.Marks.{open-some}

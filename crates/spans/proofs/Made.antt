@@ -26,7 +26,7 @@ use Rattle.spans.specs.declared.Written.{Written}
 use Rattle.spans.proofs.Search.{At, found-at, missed, Linked}
 use Rattle.spans.proofs.Turns.{flushed}
 use Rattle.spans.proofs.Marks.{pushed, tick-some}
-use Rattle.spans.proofs.Stores.{sets-append, gap}
+use Rattle.records.proofs.Stores.{sets-append, gap}
 use Rattle.spans.proofs.Records.{rec-append, rec-one}
 
 -- two states with the same fields

@@ -25,7 +25,7 @@ use Rattle.spans.specs.declared.State.{State}
 use Rattle.spans.specs.declared.Written.{Written}
 use Rattle.spans.proofs.Search.{At, found-at, missed, Linked}
 use Rattle.spans.proofs.Turns.{flushed}
-use Rattle.spans.proofs.Stores.{sets-append, gap}
+use Rattle.records.proofs.Stores.{sets-append, gap}
 use Rattle.spans.proofs.Records.{rec-append, rec-one}
 
 -- ---- the turn of the walk at a byte that is known, by what stands after it

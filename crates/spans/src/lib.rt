@@ -10,6 +10,9 @@ ghost use Rattle.spans.specs.Spans.{spans};
 ghost use Rattle.spans.specs.Line.{line-spans};
 ghost use Rattle.spans.specs.Turn.{map-byte, record-of, records-of};
 ghost use Rattle.spans.specs.State.{next-at, link-at, Known, resumed, head, moved-to, push-of, flush-of, code-span, code-of, pend, link-to, link-head, Ready, Does};
+use records::writer::put;
+use records::writer::put_bytes;
+use records::writer::put_u32;
 use text::Found;
 
 // The place of a link's `]`, and of its `)`.
@@ -105,37 +108,13 @@ fn find_link(s: &[u8], from: usize, seen: &mut [usize; 6]) -> Link
     }
 }
 
-// Stores b at `at`, unless that is past the end.
-fn put(out: &mut [u8], at: usize, b: u8)
-    ensures { λ _. ⌜ now (out .exit) ≡ set (now (out .entry)) at b ⌝ }
-{
-    if at < out.len() {
-        out[at] = b;
-    }
-}
-
 // Stores a span's map byte and the length of its text.
 fn put_head(out: &mut [u8], at: usize, map: u8, len: usize)
     requires { ⌜ at < 2 ^ 63 ⌝ }
     ensures { λ _. ⌜ now (out .exit) ≡ sets (now (out .entry)) at (map ∷ le32 len) ⌝ }
 {
     put(out, at, map);
-    put(out, at + 1, (len % 256) as u8);
-    put(out, at + 2, (len / 256 % 256) as u8);
-    put(out, at + 3, (len / 65536 % 256) as u8);
-    put(out, at + 4, (len / 16777216 % 256) as u8);
-}
-
-// Stores the bytes of s from `at` on.
-fn copy(out: &mut [u8], at: usize, s: &[u8])
-    requires { ⌜ at < 2 ^ 63 ⌝ }
-    ensures { λ _. ⌜ now (out .exit) ≡ sets (now (out .entry)) at (now (s .entry)) ⌝ }
-{
-    let mut i = 0;
-    while i < s.len() {
-        put(out, at + i, s[i]);
-        i += 1;
-    }
+    put_u32(out, at + 1, len);
 }
 
 fn either(a: bool, b: bool) -> bool
@@ -240,7 +219,7 @@ fn put_code(w: State, text: &[u8], next: usize, bold: bool, italic: bool, out: &
     }
     put_head(out, w.at, map_byte(b, i, true, true), n);
     let start = w.at + 5;
-    copy(out, start, text);
+    put_bytes(out, start, text);
     let at = start + n;
     State {
         i: next,

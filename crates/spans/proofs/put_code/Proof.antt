@@ -14,10 +14,10 @@ use Rattle.spans.proofs.put_code.Statement.{statement}
 use Rattle.spans.proofs.put_code.Tie as tie
 use Rattle.spans.proofs.put_code.Reads as reads
 use Rattle.spans.proofs.put_code.Lts as lts
-use Rattle.spans.proofs.copy.Reads as copy-reads
+use Rattle.records.proofs.writer.put.Reads as put-reads
+use Rattle.records.proofs.writer.put_bytes.Reads as put-bytes-reads
 use Rattle.spans.proofs.either.Reads as either-reads
 use Rattle.spans.proofs.map_byte.Reads as map-byte-reads
-use Rattle.spans.proofs.put.Reads as put-reads
 use Rattle.spans.proofs.put_head.Reads as put-head-reads
 
 either-requires : tie.Need-either-requires
@@ -56,8 +56,8 @@ put-head-requires c κs = search needs
 add-start : tie.Need-add-start
 add-start c = search needs
 
-copy-requires : tie.Need-copy-requires
-copy-requires c κs = search needs
+put-bytes-requires : tie.Need-put-bytes-requires
+put-bytes-requires c κs = search needs
 
 add-at-2 : tie.Need-add-at-2
 add-at-2 c = search needs
@@ -68,7 +68,7 @@ same-length-2 c = search needs
 returns-2 : tie.Need-returns-2
 returns-2 c = let a = c .before .before .before .before .before .before .before .before .before .before .before .before .before .before .before .before .args in
     let m = c .before .before .before .before .before .before .before .before .map-byte2 .ensures ∙ ap₂ (λ (x y : Bool). map-byte x y true true) (c .before .before .before .before .before .before .before .before .before .before .before .before .before .either .ensures) (c .before .before .before .before .before .before .before .before .before .before .before .before .either2 .ensures) in
-    let both = code-some (a .bold) (a .italic) (a .w) (a .out .now) _ _ (a .text .now) _ (c .before .before .before .before .before .before .before .before .before .before .if1 .left) m (c .before .before .before .before .before .before .before .put-head .ensures) (c .before .before .copy .ensures) in
+    let both = code-some (a .bold) (a .italic) (a .w) (a .out .now) _ _ (a .text .now) _ (c .before .before .before .before .before .before .before .before .before .before .if1 .left) m (c .before .before .before .before .before .before .before .put-head .ensures) (c .before .before .put-bytes .ensures) in
     (same-state refl (both .0) refl refl refl refl, both .1)
 
 pub put-code-spec : {M : Type 1} → statement M
@@ -86,7 +86,7 @@ put-code-spec =
     map-byte-requires-2
     put-head-requires
     add-start
-    copy-requires
+    put-bytes-requires
     add-at-2
     same-length-2
     returns-2)
