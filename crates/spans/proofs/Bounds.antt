@@ -9,6 +9,7 @@ use lib.ListN.{length, take, length-append, length-take}
 use Rattle.text.specs.Utf8.{utf8, encode, size}
 use Rattle.text.proofs.Laws.{utf8-size}
 use Rattle.records.specs.Blocks.{Span}
+use Rattle.records.proofs.TextMore.{size-encode}
 use Rattle.records.specs.Format.{encode-text, encode-span, encode-spans}
 use Rattle.spans.specs.Spans.{Walk, step, spans}
 use Rattle.spans.specs.Turn.{Turn, turned, text-form, record-of, records-of}
@@ -55,6 +56,39 @@ turn-small b i w c s =
       length-take (t .more) s,
     )
 
--- the records of a line's spans, with any emphasis around them, are at most six times as long as its bytes
-pub spans-small : (b i : Bool) (line : List ℕ) → length (records-of b i (spans line)) ≤ 6 * length line
-spans-small b i line = omega (arith, rec-long b i (spans line), spans-fits one some-one line .small, weigh-one line)
+-- the records of the spans of bytes, with any emphasis around them, are at most six times as long as the bytes
+pub bytes-small : (b i : Bool) (line : List ℕ) → length (records-of b i (spans line)) ≤ 6 * length line
+bytes-small b i line = omega (arith, rec-long b i (spans line), spans-fits one some-one line .small, weigh-one line)
+
+-- ---- characters: each weighs its bytes
+
+abbrev pub bytes : ℕ → ℕ
+bytes c = length (utf8 c)
+
+pub weigh-bytes : (s : List ℕ) → weigh bytes s ≡ size s
+unfolding size
+weigh-bytes [] = refl
+weigh-bytes (c ∷ s) = ap (λ (n : ℕ). length (utf8 c) + n) (weigh-bytes s)
+
+some-bytes : (c : ℕ) → 1 ≤ bytes c
+some-bytes c = utf8-size c .0
+
+text-long : (t : List ℕ) → length (encode-text t) ≤ 4 + size t
+text-long [] = omega arith
+text-long (c ∷ t) = omega (arith, size-encode (c ∷ t))
+
+spans-long : (ss : List Span) → length (encode-spans ss) ≤ 5 * length ss + texts bytes ss
+unfolding encode-spans encode-span
+spans-long [] = omega arith
+spans-long (s ∷ ss) =
+    omega (arith, spans-long ss, length-append (encode-text (s .text)) (encode-spans ss), text-long (s .text), weigh-bytes (s .text))
+
+-- the texts of a line's spans are no longer than the line, its records at most six times, and it has few spans
+pub spans-texts : (cs : List ℕ) → texts bytes (spans cs) ≤ size cs
+spans-texts cs = omega (arith, spans-fits bytes some-bytes cs .fit, weigh-bytes cs)
+
+pub spans-small : (cs : List ℕ) → length (encode-spans (spans cs)) ≤ 6 * size cs
+spans-small cs = omega (arith, spans-long (spans cs), spans-fits bytes some-bytes cs .small, weigh-bytes cs)
+
+pub spans-few : (cs : List ℕ) → 5 * length (spans cs) ≤ 6 * size cs
+spans-few cs = omega (arith, spans-fits bytes some-bytes cs .small, weigh-bytes cs)

@@ -3,9 +3,11 @@ pub mod Records
 pub mod SpanLaws
 pub mod Turns
 pub mod Bounds
+pub mod Wf
 pub mod Marks
 pub mod Made
 pub mod Loop
 pub mod Both
 pub mod Bytes
 pub mod LineLaws
+pub mod Examples

@@ -9,22 +9,20 @@ use mathlib.Core.List.{List, [], _∷_, _++_, map}
 use lib.ListN.{length, length-append, length-map}
 use lib.Seq.{sets}
 use lib.Dec.{leb}
-use borrow.Author.Tests.{le-leb, lt-leb}
-use Rattle.text.specs.Utf8.{utf8, encode, chars, size}
-use Rattle.text.proofs.Tests.{and-false}
-use Rattle.text.proofs.Laws.{utf8-size}
+use borrow.Author.Tests.{le-leb, lt-leb, leb-true}
+use Rattle.text.specs.Utf8.{Scalars, utf8, encode, chars, size}
+use Rattle.text.proofs.Tests.{and-false, and-true, on}
+use Rattle.text.proofs.Laws.{utf8-size, encode-chars}
 use Rattle.records.specs.Blocks.{Span}
-use Rattle.records.specs.Format.{le32, bit, non-empty, encode-text, encode-span, encode-spans}
+use Rattle.records.proofs.TextMore.{size-encode}
+use Rattle.records.specs.Format.{le32, bit, non-empty, encode-text, encode-span, encode-spans, WfSpans}
 use Rattle.spans.specs.Spans.{spans}
 use Rattle.spans.specs.Line.{line-spans}
 use Rattle.spans.specs.Turn.{map-byte, text-form, record-of, records-of}
 use Rattle.spans.specs.declared.Written.{Written}
+use Rattle.spans.proofs.Bounds.{spans-small, spans-few}
+use Rattle.spans.proofs.Wf.{spans-wf}
 use Rattle.spans.proofs.Bytes.{as-bytes, spans-bytes}
-
-pub size-encode : (cs : List ℕ) → size cs ≡ length (encode cs)
-unfolding size
-size-encode [] = refl
-size-encode (c ∷ cs) = ap (λ (n : ℕ). length (utf8 c) + n) (size-encode cs) ∙ sym (length-append (utf8 c) (encode cs))
 
 -- a text and its bytes have the same form
 text-same : (t : List ℕ) → text-form (encode t) ≡ encode-text t
@@ -77,6 +75,29 @@ line-long line at h = rw (lt-leb (length line) 1048576 h)
 pub line-far : (line : List ℕ) (at : ℕ) → 2 ^ 40 < at → line-spans line at ≡ []
 unfolding line-spans
 line-far line at h = rw (lt-leb at (2 ^ 40) h, and-false (leb (length line) 1048576) false refl)
+
+-- what holds of no spans and of those of a line that is not too long holds of `line-spans`
+line-by : (P : List Span → Type 0) (line : List ℕ) (at : ℕ) → P [] → (length line ≤ 1048576 → P (spans (chars line))) → P (line-spans line at)
+unfolding line-spans
+line-by P line at f g =
+    on P (leb (length line) 1048576 && leb at (2 ^ 40))
+    (λ e. g (leb-true (length line) 1048576 (and-true (leb (length line) 1048576) (leb at (2 ^ 40)) e .0)))
+    (λ _. f)
+
+chars-size : (line : List ℕ) → size (chars line) ≡ length line
+chars-size line = size-encode (chars line) ∙ ap length (encode-chars line)
+
+pub line-small : (line : List ℕ) (at : ℕ) → length (encode-spans (line-spans line at)) ≤ 6 * length line
+line-small line at =
+    line-by (λ ss. length (encode-spans ss) ≤ 6 * length line) line at (unfold encode-spans in omega arith)
+    (λ _. omega (arith, spans-small (chars line), chars-size line))
+
+pub line-few : (line : List ℕ) (at : ℕ) → 5 * length (line-spans line at) ≤ 6 * length line
+line-few line at =
+    line-by (λ ss. 5 * length ss ≤ 6 * length line) line at (omega arith) (λ _. omega (arith, spans-few (chars line), chars-size line))
+
+pub line-wf : (line : List ℕ) (at : ℕ) → Scalars (chars line) → WfSpans (line-spans line at)
+line-wf line at h = line-by WfSpans line at tt (λ k. spans-wf (chars line) h (omega (arith, chars-size line)))
 
 -- ---- what `spans` answers and stores
 

@@ -20,7 +20,7 @@ use Rattle.spans.proofs.Search.{Linked}
 use Rattle.spans.proofs.SpanLaws.{walk-end, walk-next, spans-eq}
 use Rattle.records.proofs.Stores.{sets-append}
 use Rattle.spans.proofs.Records.{rec-append, rec-carry, rec-count}
-use Rattle.spans.proofs.Bounds.{turn-within, turn-small, spans-small}
+use Rattle.spans.proofs.Bounds.{turn-within, turn-small, bytes-small}
 use Rattle.spans.proofs.Marks.{open-some}
 use Rattle.spans.proofs.Made.{same-state, made-as, map-of, flush-form, flush-length, gap-bytes, flush-bytes, flush-state}
 
@@ -193,4 +193,4 @@ module _ (B I : Bool) (line out₀ : List ℕ) (at₀ : ℕ) (w : State) (out : 
 
 -- the spans of a label are few
 pub label-few : (l : List ℕ) → length (spans l) ≤ 6 * length l
-label-few l = omega (arith, rec-count false false (spans l), spans-small false false l)
+label-few l = omega (arith, rec-count false false (spans l), bytes-small false false l)

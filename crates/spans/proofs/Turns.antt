@@ -70,7 +70,7 @@ pub by-case : {A B : Type 0} (P : B → Type 0) (o : Option A) {x : B} {g : A �
 by-case P none f g = f refl
 by-case P (some a) f g = g a refl
 
-not-empty : (s : List ℕ) → not (is-empty s) ≡ true → 1 ≤ length s
+pub not-empty : (s : List ℕ) → not (is-empty s) ≡ true → 1 ≤ length s
 not-empty [] e = let z : _≡_ {A = Bool} true false = cc in absurd (no z)
   where
     no : true ≡ false → ⊥
