@@ -1,1 +1,4 @@
 pub mod Spans
+pub mod Line
+pub mod Turn
+pub mod State

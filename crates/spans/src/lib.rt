@@ -1,1 +1,411 @@
-// The spans of a line.
+// The spans of a line: bold, italic, code, links and images, read from the line's bytes and written as records.
+ghost use mathlib.Core.Path.{_≡_};
+ghost use mathlib.Core.List.{List, _∷_};
+ghost use Prim.Native.Nat.{ℕ, _+_, _*_, _^_, _-_, _≤_, _<_};
+ghost use mathlib.Core.Bool.{Bool, true, false, _||_};
+ghost use lib.ListN.{length, drop, set, getD};
+ghost use lib.Seq.{sets};
+ghost use Rattle.records.specs.Format.{le32, bit, encode-spans};
+ghost use Rattle.spans.specs.Spans.{spans};
+ghost use Rattle.spans.specs.Line.{line-spans};
+ghost use Rattle.spans.specs.Turn.{map-byte, record-of, records-of};
+ghost use Rattle.spans.specs.State.{next-at, link-at, Known, resumed, head, moved-to, push-of, flush-of, code-span, code-of, pend, link-to, link-head, Ready, Does};
+use records::writer::put;
+use records::writer::put_bytes;
+use records::writer::put_u32;
+use text::Found;
+
+// The place of a link's `]`, and of its `)`.
+pub enum Link {
+    Ends(usize, usize),
+    Nothing,
+}
+
+// Where a search from `from` on has to start, if the mark does not stand from `low` on below `high`.
+fn resume(low: usize, high: usize, from: usize) -> usize
+    ensures { λ r. ⌜ r ≡ resumed low high from ⌝ }
+{
+    if from < low {
+        return from;
+    }
+    if high < from {
+        return from;
+    }
+    high
+}
+
+// Notes that the mark with the place k in `seen` does not stand from `low` on below `high`.
+fn note(seen: &mut [usize; 6], k: usize, low: usize, high: usize)
+    requires { ⌜ k < 5 ⌝ }
+    ensures { λ _. ⌜ now (seen .exit) ≡ set (set (now (seen .entry)) k low) (k + 1) high ⌝ }
+{
+    seen[k] = low;
+    seen[k + 1] = high;
+}
+
+// The next backtick at or after `from`. A search notes in `seen` the range that it read, and no later one reads it again.
+fn find(s: &[u8], from: usize, seen: &mut [usize; 6]) -> Found
+    requires { ⌜ Known (now s) (now seen) ⌝ }
+    ensures { λ r. ⌜ (r ≡ next-at 96 (now (s .entry)) from) × Known (now (s .entry)) (now (seen .exit)) ⌝ }
+{
+    let mut i = resume(seen[4], seen[5], from);
+    let at = 'tick: loop {
+        if s.len() <= i {
+            note(seen, 4, from, i);
+            return Found::Nowhere;
+        }
+        if s[i] == b'`' {
+            break 'tick i;
+        }
+        i += 1;
+    };
+    note(seen, 4, from, at);
+    Found::Here(at)
+}
+
+// The link whose label starts at `from`; the searches for `]` and `)` note what they read.
+fn find_link(s: &[u8], from: usize, seen: &mut [usize; 6]) -> Link
+    requires { ⌜ Known (now s) (now seen) ⌝ }
+    ensures { λ r. ⌜ (r ≡ link-at (now (s .entry)) from) × Known (now (s .entry)) (now (seen .exit)) ⌝ }
+{
+    let n = s.len();
+    'link: loop {
+        let mut i = resume(seen[0], seen[1], from);
+        let close = 'close: loop {
+            if n <= i {
+                note(seen, 0, from, i);
+                break 'link Link::Nothing;
+            }
+            if s[i] == b']' {
+                break 'close i;
+            }
+            i += 1;
+        };
+        note(seen, 0, from, close);
+        let paren = close + 1;
+        let target = 'paren: loop {
+            if n <= paren {
+                break 'link Link::Nothing;
+            }
+            if s[paren] != b'(' {
+                break 'link Link::Nothing;
+            }
+            break 'paren paren + 1;
+        };
+        let mut j = resume(seen[2], seen[3], target);
+        let end = 'end: loop {
+            if n <= j {
+                note(seen, 2, target, j);
+                break 'link Link::Nothing;
+            }
+            if s[j] == b')' {
+                break 'end j;
+            }
+            j += 1;
+        };
+        note(seen, 2, target, end);
+        break 'link Link::Ends(close, end);
+    }
+}
+
+// Stores a span's map byte and the length of its text.
+fn put_head(out: &mut [u8], at: usize, map: u8, len: usize)
+    requires { ⌜ at < 2 ^ 63 ⌝ }
+    ensures { λ _. ⌜ now (out .exit) ≡ sets (now (out .entry)) at (map ∷ le32 len) ⌝ }
+{
+    put(out, at, map);
+    put_u32(out, at + 1, len);
+}
+
+fn either(a: bool, b: bool) -> bool
+    ensures { λ r. ⌜ r ≡ a || b ⌝ }
+{
+    a | b
+}
+
+fn bit_of(b: bool, v: u8) -> u8
+    ensures { λ r. ⌜ (r ≡ bit b v) × (r ≤ v) ⌝ }
+{
+    if b { v } else { 0 }
+}
+
+fn map_byte(bold: bool, italic: bool, code: bool, text: bool) -> u8
+    ensures { λ r. ⌜ r ≡ map-byte bold italic code text ⌝ }
+{
+    bit_of(bold, 1) + bit_of(italic, 2) + bit_of(code, 4) + bit_of(text, 8)
+}
+
+// Where the walk is: the next byte of the line; where the pending span's record starts, how long its text is, and how many spans
+// stand before it; and the emphasis. The pending text is stored behind a gap of five bytes for its head, which is stored when the span ends.
+pub struct State {
+    pub i: usize,
+    pub at: usize,
+    pub len: usize,
+    pub count: usize,
+    pub bold: bool,
+    pub italic: bool,
+}
+
+// Where the records end, and how many there are.
+pub struct Written {
+    pub next: usize,
+    pub count: usize,
+}
+
+// The state at another byte, with another emphasis.
+fn moved(w: State, i: usize, bold: bool, italic: bool) -> State
+    ensures { λ r. ⌜ r ≡ moved-to w i bold italic ⌝ }
+{
+    State {
+        i,
+        bold,
+        italic,
+        ..w
+    }
+}
+
+// A byte joins the pending text.
+fn push(w: State, c: u8, used: usize, out: &mut [u8]) -> State
+    requires { ⌜ (w .at + w .len < 2 ^ 63) × (w .i + used < 2 ^ 63) ⌝ }
+    ensures { λ r. ⌜ (r ≡ push-of w used) × (now (out .exit) ≡ set (now (out .entry)) (w .at + 5 + w .len) c) ⌝ }
+{
+    put(out, w.at + 5 + w.len, c);
+    State {
+        i: w.i + used,
+        len: w.len + 1,
+        ..w
+    }
+}
+
+// The pending text becomes a span, unless it is empty.
+fn flush(w: State, bold: bool, italic: bool, out: &mut [u8]) -> State
+    requires { ⌜ (w .at + w .len < 2 ^ 63) × (w .count < 2 ^ 63) ⌝ }
+    ensures { λ r. ⌜ (r ≡ flush-of w)
+        × (now (out .exit) ≡ sets (now (out .entry)) (w .at) (head (map-byte (w .bold || bold) (w .italic || italic) false true) (w .len))) ⌝ }
+{
+    if w.len == 0 {
+        return w;
+    }
+    let map = map_byte(either(w.bold, bold), either(w.italic, italic), false, true);
+    put_head(out, w.at, map, w.len);
+    State {
+        at: w.at + 5 + w.len,
+        len: 0,
+        count: w.count + 1,
+        ..w
+    }
+}
+
+// A span of code.
+fn put_code(w: State, text: &[u8], next: usize, bold: bool, italic: bool, out: &mut [u8]) -> State
+    requires { ⌜ (w .at + length (now text) < 2 ^ 62) × (w .count < 2 ^ 63) ⌝ }
+    ensures { λ r. ⌜ (r ≡ code-of w next bold italic (now (text .entry)))
+        × (now (out .exit) ≡ sets (now (out .entry)) (w .at) (record-of bold italic (code-span w (now (text .entry))))) ⌝ }
+{
+    let n = text.len();
+    let b = either(w.bold, bold);
+    let i = either(w.italic, italic);
+    let count = w.count + 1;
+    if n == 0 {
+        put(out, w.at, map_byte(b, i, true, false));
+        let at = w.at + 1;
+        return State {
+            i: next,
+            at,
+            len: 0,
+            count,
+            ..w
+        };
+    }
+    put_head(out, w.at, map_byte(b, i, true, true), n);
+    let start = w.at + 5;
+    put_bytes(out, start, text);
+    let at = start + n;
+    State {
+        i: next,
+        at,
+        len: 0,
+        count,
+        ..w
+    }
+}
+
+// Where the pending text ends.
+fn text_end(w: State) -> usize
+    requires { ⌜ w .at + w .len < 2 ^ 63 ⌝ }
+    ensures { λ r. ⌜ r ≡ w .at + pend (w .len) ⌝ }
+{
+    if w.len == 0 {
+        return w.at;
+    }
+    w.at + 5 + w.len
+}
+
+// A backslash: the next byte is text.
+fn escape(line: &[u8], w: State, out: &mut [u8]) -> State
+    requires { ⌜ Ready (now line) w × (getD (now line) (w .i) 0 ≡ 92) ⌝ }
+    ensures { λ r. ⌜ ((b i : Bool) → Does b i (now (line .entry)) w (now (out .entry)) r (now (out .exit))) ⌝ }
+{
+    let j = w.i + 1;
+    if j < line.len() {
+        return push(w, line[j], 2, out);
+    }
+    push(w, b'\\', 1, out)
+}
+
+// A backtick: code up to the next one.
+fn tick(
+    line: &[u8],
+    w: State,
+    bold: bool,
+    italic: bool,
+    out: &mut [u8],
+    seen: &mut [usize; 6],
+) -> State
+    requires { ⌜ Ready (now line) w × ((getD (now line) (w .i) 0 ≡ 96) × Known (now line) (now seen)) ⌝ }
+    ensures { λ r. ⌜ Does bold italic (now (line .entry)) w (now (out .entry)) r (now (out .exit)) × Known (now (line .entry)) (now (seen .exit)) ⌝ }
+{
+    let from = w.i + 1;
+    let Found::Here(end) = find(line, from, seen) else {
+        return push(w, b'`', 1, out);
+    };
+    let f = flush(w, bold, italic, out);
+    put_code(f, &line[from..end], end + 1, bold, italic, out)
+}
+
+// A star or two: the emphasis changes.
+fn star(line: &[u8], w: State, bold: bool, italic: bool, out: &mut [u8]) -> State
+    requires { ⌜ Ready (now line) w × (getD (now line) (w .i) 0 ≡ 42) ⌝ }
+    ensures { λ r. ⌜ Does bold italic (now (line .entry)) w (now (out .entry)) r (now (out .exit)) ⌝ }
+{
+    let j = w.i + 1;
+    let f = flush(w, bold, italic, out);
+    if line.len() <= j {
+        return moved(f, j, w.bold, !w.italic);
+    }
+    if line[j] != b'*' {
+        return moved(f, j, w.bold, !w.italic);
+    }
+    moved(f, j + 1, !w.bold, w.italic)
+}
+
+// An exclamation mark: an image is dropped.
+fn bang(line: &[u8], w: State, out: &mut [u8], seen: &mut [usize; 6]) -> State
+    requires { ⌜ Ready (now line) w × ((getD (now line) (w .i) 0 ≡ 33) × Known (now line) (now seen)) ⌝ }
+    ensures { λ r. ⌜ ((b i : Bool) → Does b i (now (line .entry)) w (now (out .entry)) r (now (out .exit))) × Known (now (line .entry)) (now (seen .exit)) ⌝ }
+{
+    let j = w.i + 1;
+    if line.len() <= j {
+        return push(w, b'!', 1, out);
+    }
+    if line[j] != b'[' {
+        return push(w, b'!', 1, out);
+    }
+    let Link::Ends(_, end) = find_link(line, j + 1, seen) else {
+        return push(w, b'!', 1, out);
+    };
+    moved(w, end + 1, w.bold, w.italic)
+}
+
+// The turn at any byte but `[`.
+fn turn(
+    line: &[u8],
+    w: State,
+    bold: bool,
+    italic: bool,
+    out: &mut [u8],
+    seen: &mut [usize; 6],
+) -> State
+    requires { ⌜ Ready (now line) w × ((getD (now line) (w .i) 0 ≡ 91 → ⊥) × Known (now line) (now seen)) ⌝ }
+    ensures { λ r. ⌜ Does bold italic (now (line .entry)) w (now (out .entry)) r (now (out .exit)) × Known (now (line .entry)) (now (seen .exit)) ⌝ }
+{
+    let i = w.i;
+    let c = line[i];
+    match c {
+        b'\\' => escape(line, w, out),
+        b'`' => tick(line, w, bold, italic, out, seen),
+        b'*' => star(line, w, bold, italic, out),
+        b'!' => bang(line, w, out, seen),
+        _ => push(w, c, 1, out),
+    }
+}
+
+// The spans of a link's label stand at the end of the pending text, which they end if there are any.
+fn join_label(
+    w: State,
+    label: Written,
+    next: usize,
+    bold: bool,
+    italic: bool,
+    out: &mut [u8],
+) -> State
+    requires { ⌜ (w .at + w .len < 2 ^ 63) × (w .count + label .count < 2 ^ 63) ⌝ }
+    ensures { λ r. ⌜ (r ≡ link-to w label next)
+        × (now (out .exit) ≡ sets (now (out .entry)) (w .at) (link-head (map-byte (w .bold || bold) (w .italic || italic) false true) (w .len) (label .count))) ⌝ }
+{
+    if label.count == 0 {
+        return moved(w, next, w.bold, w.italic);
+    }
+    let f = flush(w, bold, italic, out);
+    State {
+        i: next,
+        at: label.next,
+        len: 0,
+        count: f.count + label.count,
+        ..w
+    }
+}
+
+// Writes the records of the spans of a line from `at` on, as far as there is room; the emphasis `bold` and `italic` stands around them.
+fn spans_in(line: &[u8], bold: bool, italic: bool, out: &mut [u8], at: usize) -> Written
+    requires { ⌜ at + 6 * length (now line) < 2 ^ 62 ⌝ }
+    ensures { λ r. ⌜ (r .next ≡ at + length (records-of bold italic (spans (now (line .entry)))))
+        × ((r .count ≡ length (spans (now (line .entry))))
+        × (now (out .exit) ≡ sets (now (out .entry)) at (records-of bold italic (spans (now (line .entry)))))) ⌝ }
+{
+    let mut w = State {
+        i: 0,
+        at,
+        len: 0,
+        count: 0,
+        bold: false,
+        italic: false,
+    };
+    let mut seen = [0usize; 6];
+    while w.i < line.len() {
+        let i = w.i;
+        if line[i] != b'[' {
+            w = turn(line, w, bold, italic, out, &mut seen);
+            continue;
+        }
+        let from = i + 1;
+        let Link::Ends(close, end) = find_link(line, from, &mut seen) else {
+            w = push(w, b'[', 1, out);
+            continue;
+        };
+        let b = either(w.bold, bold);
+        let t = either(w.italic, italic);
+        let label = spans_in(&line[from..close], b, t, out, text_end(w));
+        w = join_label(w, label, end + 1, bold, italic, out);
+    }
+    let f = flush(w, bold, italic, out);
+    Written {
+        next: f.at,
+        count: f.count,
+    }
+}
+
+// Writes the records of the spans of a line from `at` on, as far as there is room, and answers where they end and how many there are.
+pub fn spans(line: &[u8], out: &mut [u8], at: usize) -> Written
+    ensures { λ r. ⌜ (r .next ≡ at + length (encode-spans (line-spans (now (line .entry)) at)))
+        × ((r .count ≡ length (line-spans (now (line .entry)) at))
+        × (now (out .exit) ≡ sets (now (out .entry)) at (encode-spans (line-spans (now (line .entry)) at)))) ⌝ }
+{
+    if 1048576 < line.len() {
+        return Written { next: at, count: 0 };
+    }
+    if 1099511627776 < at {
+        return Written { next: at, count: 0 };
+    }
+    spans_in(line, false, false, out, at)
+}

@@ -1,0 +1,13 @@
+pub mod Search
+pub mod Records
+pub mod SpanLaws
+pub mod Turns
+pub mod Bounds
+pub mod Wf
+pub mod Marks
+pub mod Made
+pub mod Loop
+pub mod Both
+pub mod Bytes
+pub mod LineLaws
+pub mod Examples

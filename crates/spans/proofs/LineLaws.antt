@@ -1,0 +1,117 @@
+-- The laws of `line-spans`: what `spans_in` stores for the bytes of a line are the records of its characters' spans.
+-- Assumes nothing.
+use mathlib.Core.Path.{_≡_, refl, sym, ap, ap₂, _∙_}
+use Prim.Native.Nat.{ℕ, zero, suc, _+_, _*_, _^_, _≤_, _<_}
+use native.Mathlib.Nat.{add-zero}
+use native.Mathlib.Omega.{arith}
+use mathlib.Core.Bool.{Bool, true, false, _&&_, _||_}
+use mathlib.Core.List.{List, [], _∷_, _++_, map}
+use lib.ListN.{length, length-append, length-map}
+use lib.Seq.{sets}
+use lib.Dec.{leb}
+use borrow.Author.Tests.{le-leb, lt-leb, leb-true}
+use Rattle.text.specs.Utf8.{Scalars, utf8, encode, chars, size}
+use Rattle.text.proofs.Tests.{and-false, and-true, on}
+use Rattle.text.proofs.Laws.{utf8-size, encode-chars}
+use Rattle.records.specs.Blocks.{Span}
+use Rattle.records.proofs.TextMore.{size-encode}
+use Rattle.records.specs.Format.{le32, bit, non-empty, encode-text, encode-span, encode-spans, WfSpans}
+use Rattle.spans.specs.Spans.{spans}
+use Rattle.spans.specs.Line.{line-spans}
+use Rattle.spans.specs.Turn.{map-byte, text-form, record-of, records-of}
+use Rattle.spans.specs.declared.Written.{Written}
+use Rattle.spans.proofs.Bounds.{spans-small, spans-few}
+use Rattle.spans.proofs.Wf.{spans-wf}
+use Rattle.spans.proofs.Bytes.{as-bytes, spans-bytes}
+
+-- a text and its bytes have the same form
+text-same : (t : List ℕ) → text-form (encode t) ≡ encode-text t
+text-same [] = refl
+text-same (c ∷ t) = go (encode (c ∷ t)) refl
+  where
+    go : (l : List ℕ) → encode (c ∷ t) ≡ l → text-form l ≡ le32 (size (c ∷ t)) ++ encode (c ∷ t)
+    go [] e = absurd (omega (arith, ap length e, length-append (utf8 c) (encode t), utf8-size c .0))
+    go (x ∷ l) e = ap₂ (λ (n : ℕ) (z : List ℕ). le32 n ++ z) (ap length (sym e) ∙ sym (size-encode (c ∷ t))) (sym e)
+
+some-same : (t : List ℕ) → non-empty (encode t) ≡ non-empty t
+some-same [] = refl
+some-same (c ∷ t) = go (encode (c ∷ t)) refl
+  where
+    go : (l : List ℕ) → encode (c ∷ t) ≡ l → non-empty l ≡ true
+    go [] e = absurd (omega (arith, ap length e, length-append (utf8 c) (encode t), utf8-size c .0))
+    go (x ∷ l) e = refl
+
+or-false : (b : Bool) → b || false ≡ b
+or-false true = refl
+or-false false = refl
+
+record-same : (s : Span) → record-of false false (as-bytes s) ≡ encode-span s
+unfolding encode-span
+record-same s =
+    ap₂ (λ (n : Bool) (l : List ℕ). map-byte (s .bold || false) (s .italic || false) (s .code) n ∷ l) (some-same (s .text)) (text-same (s .text))
+    ∙ ap₂ (λ (b i : Bool). map-byte b i (s .code) (non-empty (s .text)) ∷ encode-text (s .text)) (or-false (s .bold)) (or-false (s .italic))
+
+records-same : (ss : List Span) → records-of false false (map as-bytes ss) ≡ encode-spans ss
+unfolding records-of encode-spans
+records-same [] = refl
+records-same (s ∷ ss) = ap₂ (λ (x y : List ℕ). x ++ y) (record-same s) (records-same ss)
+
+pub line-records : (bs : List ℕ) → records-of false false (spans bs) ≡ encode-spans (spans (chars bs))
+line-records bs = ap (records-of false false) (spans-bytes bs) ∙ records-same (spans (chars bs))
+
+pub line-count : (bs : List ℕ) → length (spans bs) ≡ length (spans (chars bs))
+line-count bs = ap length (spans-bytes bs) ∙ length-map (spans (chars bs)) as-bytes
+
+-- ---- the guard
+
+pub line-is : (line : List ℕ) (at : ℕ) → length line ≤ 1048576 → at ≤ 2 ^ 40 → line-spans line at ≡ spans (chars line)
+unfolding line-spans
+line-is line at h k = rw (le-leb (length line) 1048576 h, le-leb at (2 ^ 40) k)
+
+pub line-long : (line : List ℕ) (at : ℕ) → 1048576 < length line → line-spans line at ≡ []
+unfolding line-spans
+line-long line at h = rw (lt-leb (length line) 1048576 h)
+
+pub line-far : (line : List ℕ) (at : ℕ) → 2 ^ 40 < at → line-spans line at ≡ []
+unfolding line-spans
+line-far line at h = rw (lt-leb at (2 ^ 40) h, and-false (leb (length line) 1048576) false refl)
+
+-- what holds of no spans and of those of a line that is not too long holds of `line-spans`
+line-by : (P : List Span → Type 0) (line : List ℕ) (at : ℕ) → P [] → (length line ≤ 1048576 → P (spans (chars line))) → P (line-spans line at)
+unfolding line-spans
+line-by P line at f g =
+    on P (leb (length line) 1048576 && leb at (2 ^ 40))
+    (λ e. g (leb-true (length line) 1048576 (and-true (leb (length line) 1048576) (leb at (2 ^ 40)) e .0)))
+    (λ _. f)
+
+chars-size : (line : List ℕ) → size (chars line) ≡ length line
+chars-size line = size-encode (chars line) ∙ ap length (encode-chars line)
+
+pub line-small : (line : List ℕ) (at : ℕ) → length (encode-spans (line-spans line at)) ≤ 6 * length line
+line-small line at =
+    line-by (λ ss. length (encode-spans ss) ≤ 6 * length line) line at (unfold encode-spans in omega arith)
+    (λ _. omega (arith, spans-small (chars line), chars-size line))
+
+pub line-few : (line : List ℕ) (at : ℕ) → 5 * length (line-spans line at) ≤ 6 * length line
+line-few line at =
+    line-by (λ ss. 5 * length ss ≤ 6 * length line) line at (omega arith) (λ _. omega (arith, spans-few (chars line), chars-size line))
+
+pub line-wf : (line : List ℕ) (at : ℕ) → Scalars (chars line) → WfSpans (line-spans line at)
+line-wf line at h = line-by WfSpans line at tt (λ k. spans-wf (chars line) h (omega (arith, chars-size line)))
+
+-- ---- what `spans` answers and stores
+
+abbrev pub Wrote : List ℕ → List ℕ → List ℕ → ℕ → ℕ → ℕ → Type 0
+Wrote line out out′ at next count =
+    (next ≡ at + length (encode-spans (line-spans line at)))
+    × ((count ≡ length (line-spans line at)) × (out′ ≡ sets out at (encode-spans (line-spans line at))))
+
+module _ (line out : List ℕ) (at : ℕ) where
+  pub wrote-none : line-spans line at ≡ [] → Wrote line out out at at 0
+  unfolding encode-spans
+  wrote-none e = rw e (sym (add-zero at), (refl, refl))
+
+  pub wrote-all : (out′ : List ℕ) (next count : ℕ) → length line ≤ 1048576 → at ≤ 2 ^ 40
+      → (next ≡ at + length (records-of false false (spans line))) × ((count ≡ length (spans line)) × (out′ ≡ sets out at (records-of false false (spans line))))
+      → Wrote line out out′ at next count
+  wrote-all out′ next count h k e = rw (line-is line at h k, ← line-records line, ← line-count line) e

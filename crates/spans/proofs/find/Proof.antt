@@ -1,0 +1,76 @@
+-- `find`: the search for a backtick starts after what is known of the line, and notes what it read.
+-- Assumes nothing.
+use borrow.Author.Needs.{needs}
+use mathlib.Core.Path.{_≡_, refl, sym, ap, _∙_}
+use Prim.Native.Nat.{ℕ, _+_, _-_, _<_, _≤_}
+use native.Mathlib.Omega.{arith}
+use lib.ListN.{length, getD, set}
+use Rattle.spans.specs.State.{Clear, Known, next-at}
+use Rattle.spans.proofs.Search.{clear-resumed, clear-step, clear-next, next-end, next-here, note-tick}
+use Rattle.spans.proofs.find.Statement.{statement}
+use Rattle.spans.proofs.find.Tie as tie
+use Rattle.spans.proofs.find.Reads as reads
+use Rattle.spans.proofs.find.Lts as lts
+use Rattle.spans.proofs.note.Reads as note-reads
+use Rattle.spans.proofs.resume.Reads as resume-reads
+
+abbrev Inv-tick : tie.InvT-tick
+Inv-tick s from seen₀ i₀ seen i = Clear 96 s from i × Known s seen
+
+abbrev μ-tick : tie.MeasureT-tick
+μ-tick s from seen₀ i₀ seen i = length s - i
+
+element-copy-out-resume : tie.Need-element-copy-out-resume Inv-tick μ-tick
+element-copy-out-resume c = search needs
+
+element-copy-out-resume-2 : tie.Need-element-copy-out-resume-2 Inv-tick μ-tick
+element-copy-out-resume-2 c = search needs
+
+resume-requires : tie.Need-resume-requires Inv-tick μ-tick
+resume-requires c κs = search needs
+
+tick-holds : tie.Need-tick-holds Inv-tick μ-tick
+tick-holds c = (rw (c .resume .ensures) (clear-resumed 96 _ _ _ _ (c .before .before .before .before .pre .tick)), c .before .before .before .before .pre)
+
+note-requires : tie.Need-note-requires Inv-tick μ-tick
+note-requires c κs = search needs
+
+returns : tie.Need-returns Inv-tick μ-tick
+returns c = (sym (clear-next 96 _ _ _ (c .before .before .before .tick .inv .0) ∙ next-end 96 _ _ (c .before .before .if1 .taken)), note-tick _ _ (c .before .before .before .tick .inv .1) _ _ (c .before .before .before .tick .inv .0) _ (c .note .ensures))
+
+shared-slice-read-if2 : tie.Need-shared-slice-read-if2 Inv-tick μ-tick
+shared-slice-read-if2 c = omega arith
+
+add-i : tie.Need-add-i Inv-tick μ-tick
+add-i c = omega arith
+
+tick-less : tie.Need-tick-less Inv-tick μ-tick
+tick-less c = omega arith
+
+tick-again : tie.Need-tick-again Inv-tick μ-tick
+tick-again c = (clear-step 96 _ _ _ (c .before .before .before .tick .inv .0) (c .before .before .if1 .left) (c .if2 .left), c .before .before .before .tick .inv .1)
+
+note-requires-2 : tie.Need-note-requires-2 Inv-tick μ-tick
+note-requires-2 c κs = search needs
+
+returns-2 : tie.Need-returns-2 Inv-tick μ-tick
+returns-2 c = (sym (clear-next 96 _ _ _ (c .before .before .before .before .before .tick .inv .0) ∙ next-here 96 _ _ (c .before .before .before .before .if1 .left) (c .before .before .if2 .taken)), note-tick _ _ (c .before .before .before .before .before .tick .inv .1) _ _ (c .before .before .before .before .before .tick .inv .0) _ (c .note2 .ensures))
+
+pub find-spec : {M : Type 1} → statement M
+find-spec =
+    tie.close
+    (tie.spec
+    Inv-tick
+    μ-tick
+    element-copy-out-resume
+    element-copy-out-resume-2
+    resume-requires
+    tick-holds
+    note-requires
+    returns
+    shared-slice-read-if2
+    add-i
+    tick-less
+    tick-again
+    note-requires-2
+    returns-2)

@@ -1,0 +1,244 @@
+-- `find_link`: two searches that start after what is known of the line, and a test between them. The outer loop and the one for `(` make one turn.
+-- Assumes nothing.
+use borrow.Author.Needs.{needs}
+use mathlib.Core.Path.{_≡_, refl, sym, ap, _∙_}
+use Prim.Native.Nat.{ℕ, _+_, _-_, _<_, _≤_}
+use native.Mathlib.Omega.{arith}
+use lib.ListN.{length, getD, set}
+use Rattle.spans.specs.State.{Clear, Known}
+use Rattle.spans.proofs.Search.{clear-resumed, clear-step, note-close, note-end, no-close, no-paren-end, no-paren, no-end, closed}
+use Rattle.spans.proofs.find_link.Statement.{statement}
+use Rattle.spans.proofs.find_link.Tie as tie
+use Rattle.spans.proofs.find_link.Reads as reads
+use Rattle.spans.proofs.find_link.Lts as lts
+use Rattle.spans.proofs.note.Reads as note-reads
+use Rattle.spans.proofs.resume.Reads as resume-reads
+
+abbrev Inv-close : tie.InvT-close
+Inv-close s from seen₀ n i₀ seen i = Clear 93 s from i × Known s seen
+
+abbrev μ-close : tie.MeasureT-close
+μ-close s from seen₀ n i₀ seen i = n - i
+
+abbrev Inv-paren : tie.InvT-paren
+Inv-paren s from seen n i close paren = Unit
+
+abbrev μ-paren : tie.MeasureT-paren
+μ-paren s from seen n i close paren = 0
+
+abbrev Inv-end : tie.InvT-end
+Inv-end s from seen₀ n i close paren target j₀ seen j = Clear 41 s target j × Known s seen
+
+abbrev μ-end : tie.MeasureT-end
+μ-end s from seen₀ n i close paren target j₀ seen j = n - j
+
+abbrev Inv-link : tie.InvT-link
+Inv-link s from seen₀ n seen = Known s seen
+
+abbrev μ-link : tie.MeasureT-link
+μ-link s from seen₀ n seen = 0
+
+link-holds : tie.Need-link-holds Inv-close μ-close Inv-paren μ-paren Inv-end μ-end Inv-link μ-link
+link-holds c = c .before .pre
+
+element-copy-out-resume :
+    tie.Need-element-copy-out-resume
+    Inv-close
+    μ-close
+    Inv-paren
+    μ-paren
+    Inv-end
+    μ-end
+    Inv-link
+    μ-link
+element-copy-out-resume c = search needs
+
+element-copy-out-resume-2 :
+    tie.Need-element-copy-out-resume-2
+    Inv-close
+    μ-close
+    Inv-paren
+    μ-paren
+    Inv-end
+    μ-end
+    Inv-link
+    μ-link
+element-copy-out-resume-2 c = search needs
+
+resume-requires :
+    tie.Need-resume-requires Inv-close μ-close Inv-paren μ-paren Inv-end μ-end Inv-link μ-link
+resume-requires c κs = search needs
+
+close-holds :
+    tie.Need-close-holds Inv-close μ-close Inv-paren μ-paren Inv-end μ-end Inv-link μ-link
+close-holds c = (rw (c .resume .ensures) (clear-resumed 93 _ _ _ _ (c .before .before .before .link .inv .close)), c .before .before .before .link .inv)
+
+note-requires :
+    tie.Need-note-requires Inv-close μ-close Inv-paren μ-paren Inv-end μ-end Inv-link μ-link
+note-requires c κs = search needs
+
+shared-slice-read-if2 :
+    tie.Need-shared-slice-read-if2
+    Inv-close
+    μ-close
+    Inv-paren
+    μ-paren
+    Inv-end
+    μ-end
+    Inv-link
+    μ-link
+shared-slice-read-if2 c = omega arith
+
+add-i : tie.Need-add-i Inv-close μ-close Inv-paren μ-paren Inv-end μ-end Inv-link μ-link
+add-i c = omega arith
+
+close-less : tie.Need-close-less Inv-close μ-close Inv-paren μ-paren Inv-end μ-end Inv-link μ-link
+close-less c = omega arith
+
+close-again :
+    tie.Need-close-again Inv-close μ-close Inv-paren μ-paren Inv-end μ-end Inv-link μ-link
+close-again c = (clear-step 93 _ _ _ (c .before .before .before .close .inv .0) (c .before .before .if1 .left) (c .if2 .left), c .before .before .before .close .inv .1)
+
+note-requires-2 :
+    tie.Need-note-requires-2 Inv-close μ-close Inv-paren μ-paren Inv-end μ-end Inv-link μ-link
+note-requires-2 c κs = search needs
+
+add-paren : tie.Need-add-paren Inv-close μ-close Inv-paren μ-paren Inv-end μ-end Inv-link μ-link
+add-paren c = omega arith
+
+paren-holds :
+    tie.Need-paren-holds Inv-close μ-close Inv-paren μ-paren Inv-end μ-end Inv-link μ-link
+paren-holds c = tt
+
+shared-slice-read-if4 :
+    tie.Need-shared-slice-read-if4
+    Inv-close
+    μ-close
+    Inv-paren
+    μ-paren
+    Inv-end
+    μ-end
+    Inv-link
+    μ-link
+shared-slice-read-if4 c = omega arith
+
+add-target : tie.Need-add-target Inv-close μ-close Inv-paren μ-paren Inv-end μ-end Inv-link μ-link
+add-target c = omega arith
+
+element-copy-out-resume-3 :
+    tie.Need-element-copy-out-resume-3
+    Inv-close
+    μ-close
+    Inv-paren
+    μ-paren
+    Inv-end
+    μ-end
+    Inv-link
+    μ-link
+element-copy-out-resume-3 c = search needs
+
+element-copy-out-resume-4 :
+    tie.Need-element-copy-out-resume-4
+    Inv-close
+    μ-close
+    Inv-paren
+    μ-paren
+    Inv-end
+    μ-end
+    Inv-link
+    μ-link
+element-copy-out-resume-4 c = search needs
+
+resume-requires-2 :
+    tie.Need-resume-requires-2 Inv-close μ-close Inv-paren μ-paren Inv-end μ-end Inv-link μ-link
+resume-requires-2 c κs = search needs
+
+end-holds : tie.Need-end-holds Inv-close μ-close Inv-paren μ-paren Inv-end μ-end Inv-link μ-link
+end-holds c = let k = note-close _ _ (c .before .before .before .before .before .before .before .before .before .before .before .before .close .inv .1) _ _ (c .before .before .before .before .before .before .before .before .before .before .before .before .close .inv .0) _ (c .before .before .before .before .before .before .before .note2 .ensures) in (rw (c .resume2 .ensures) (clear-resumed 41 _ _ _ _ (k .end)), k)
+
+note-requires-3 :
+    tie.Need-note-requires-3 Inv-close μ-close Inv-paren μ-paren Inv-end μ-end Inv-link μ-link
+note-requires-3 c κs = search needs
+
+shared-slice-read-if6 :
+    tie.Need-shared-slice-read-if6
+    Inv-close
+    μ-close
+    Inv-paren
+    μ-paren
+    Inv-end
+    μ-end
+    Inv-link
+    μ-link
+shared-slice-read-if6 c = omega arith
+
+add-j : tie.Need-add-j Inv-close μ-close Inv-paren μ-paren Inv-end μ-end Inv-link μ-link
+add-j c = omega arith
+
+end-less : tie.Need-end-less Inv-close μ-close Inv-paren μ-paren Inv-end μ-end Inv-link μ-link
+end-less c = omega arith
+
+end-again : tie.Need-end-again Inv-close μ-close Inv-paren μ-paren Inv-end μ-end Inv-link μ-link
+end-again c = (clear-step 41 _ _ _ (c .before .before .before .end .inv .0) (c .before .before .if5 .left) (c .if6 .left), c .before .before .before .end .inv .1)
+
+note-requires-4 :
+    tie.Need-note-requires-4 Inv-close μ-close Inv-paren μ-paren Inv-end μ-end Inv-link μ-link
+note-requires-4 c κs = search needs
+
+returns : tie.Need-returns Inv-close μ-close Inv-paren μ-paren Inv-end μ-end Inv-link μ-link
+returns c = (no-close _ _ _ (c .before .before .before .close .inv .0) (c .before .before .if1 .taken), note-close _ _ (c .before .before .before .close .inv .1) _ _ (c .before .before .before .close .inv .0) _ (c .note .ensures))
+
+returns-2 : tie.Need-returns-2 Inv-close μ-close Inv-paren μ-paren Inv-end μ-end Inv-link μ-link
+returns-2 c = (no-paren-end _ _ _ (c .before .before .before .before .before .before .before .close .inv .0) (c .before .before .before .before .before .before .if1 .left) (c .before .before .before .before .if2 .taken) (c .if3 .taken), (note-close _ _ (c .before .before .before .before .before .before .before .close .inv .1) _ _ (c .before .before .before .before .before .before .before .close .inv .0) _ (c .before .before .note2 .ensures)))
+
+returns-3 : tie.Need-returns-3 Inv-close μ-close Inv-paren μ-paren Inv-end μ-end Inv-link μ-link
+returns-3 c = (no-paren _ _ _ (c .before .before .before .before .before .before .before .before .before .close .inv .0) (c .before .before .before .before .before .before .before .before .if1 .left) (c .before .before .before .before .before .before .if2 .taken) (c .before .before .if3 .left) (c .if4 .taken), (note-close _ _ (c .before .before .before .before .before .before .before .before .before .close .inv .1) _ _ (c .before .before .before .before .before .before .before .before .before .close .inv .0) _ (c .before .before .before .before .note2 .ensures)))
+
+returns-4 : tie.Need-returns-4 Inv-close μ-close Inv-paren μ-paren Inv-end μ-end Inv-link μ-link
+returns-4 c = (no-end _ _ _ (c .before .before .before .before .before .before .before .before .before .before .before .before .before .before .before .before .close .inv .0) (c .before .before .before .before .before .before .before .before .before .before .before .before .before .before .before .if1 .left) (c .before .before .before .before .before .before .before .before .before .before .before .before .before .if2 .taken) (c .before .before .before .before .before .before .before .before .before .if3 .left) (c .before .before .before .before .before .before .before .if4 .left) _ (c .before .before .before .end .inv .0) (c .before .before .if5 .taken), note-end _ _ (c .before .before .before .end .inv .1) _ _ (c .before .before .before .end .inv .0) _ (c .note3 .ensures))
+
+returns-5 : tie.Need-returns-5 Inv-close μ-close Inv-paren μ-paren Inv-end μ-end Inv-link μ-link
+returns-5 c = (closed _ _ _ (c .before .before .before .before .before .before .before .before .before .before .before .before .before .before .before .before .before .before .close .inv .0) (c .before .before .before .before .before .before .before .before .before .before .before .before .before .before .before .before .before .if1 .left) (c .before .before .before .before .before .before .before .before .before .before .before .before .before .before .before .if2 .taken) (c .before .before .before .before .before .before .before .before .before .before .before .if3 .left) (c .before .before .before .before .before .before .before .before .before .if4 .left) _ (c .before .before .before .before .before .end .inv .0) (c .before .before .before .before .if5 .left) (c .before .before .if6 .taken), note-end _ _ (c .before .before .before .before .before .end .inv .1) _ _ (c .before .before .before .before .before .end .inv .0) _ (c .note4 .ensures))
+
+pub find-link-spec : {M : Type 1} → statement M
+find-link-spec =
+    tie.close
+    (tie.spec
+    Inv-close
+    μ-close
+    Inv-paren
+    μ-paren
+    Inv-end
+    μ-end
+    Inv-link
+    μ-link
+    link-holds
+    element-copy-out-resume
+    element-copy-out-resume-2
+    resume-requires
+    close-holds
+    note-requires
+    shared-slice-read-if2
+    add-i
+    close-less
+    close-again
+    note-requires-2
+    add-paren
+    paren-holds
+    shared-slice-read-if4
+    add-target
+    element-copy-out-resume-3
+    element-copy-out-resume-4
+    resume-requires-2
+    end-holds
+    note-requires-3
+    shared-slice-read-if6
+    add-j
+    end-less
+    end-again
+    note-requires-4
+    returns
+    returns-2
+    returns-3
+    returns-4
+    returns-5)

@@ -1,0 +1,72 @@
+-- `flush` stores the head of pending text that is not empty.
+-- Assumes nothing.
+use mathlib.Core.Path.{_≡_, refl, sym, ap, ap₂, _∙_}
+use Prim.Native.Nat.{ℕ, _+_, _-_, _<_, _≤_}
+use native.Mathlib.Omega.{arith}
+use mathlib.Core.Bool.{Bool, true, false}
+use mathlib.Core.List.{List, [], _∷_}
+use lib.ListN.{length, getD, drop, take, length-take, length-drop}
+use lib.Seq.{sets}
+use Rattle.records.specs.Format.{le32}
+use Rattle.spans.specs.Turn.{map-byte}
+use Rattle.spans.proofs.Made.{flush-some, head-some}
+use borrow.Author.Needs.{needs}
+use Rattle.spans.proofs.flush.Statement.{statement}
+use Rattle.spans.proofs.flush.Tie as tie
+use Rattle.spans.proofs.flush.Reads as reads
+use Rattle.spans.proofs.flush.Lts as lts
+use Rattle.spans.proofs.either.Reads as either-reads
+use Rattle.spans.proofs.map_byte.Reads as map-byte-reads
+use Rattle.spans.proofs.put_head.Reads as put-head-reads
+
+returns : tie.Need-returns
+returns c = search needs
+
+either-requires : tie.Need-either-requires
+either-requires c κs = search needs
+
+either-requires-2 : tie.Need-either-requires-2
+either-requires-2 c κs = search needs
+
+map-byte-requires : tie.Need-map-byte-requires
+map-byte-requires c κs = search needs
+
+put-head-requires : tie.Need-put-head-requires
+put-head-requires c κs = search needs
+
+add-t11 : tie.Need-add-t11
+add-t11 c = search needs
+
+add-t12 : tie.Need-add-t12
+add-t12 c = search needs
+
+add-t13 : tie.Need-add-t13
+add-t13 c = search needs
+
+same-length : tie.Need-same-length
+same-length c = search needs
+
+returns-2 : tie.Need-returns-2
+returns-2 c = let a = c .before .before .before .before .before .before .before .before .before .before .before .before .before .args in
+    let ne = c .before .before .before .before .before .before .before .before .before .before .if1 .left in (
+      flush-some (a .w .len) (a .w) ne,
+      c .before .before .before .before .before .put-head .ensures
+          ∙ ap (sets (a .out .now) (a .w .at))
+          (ap (λ (m : ℕ). m ∷ le32 (a .w .len)) (c .before .before .before .before .before .before .before .map-byte .ensures ∙ ap₂ (λ (x y : Bool). map-byte x y false true) (c .before .before .before .before .before .before .before .before .before .either .ensures) (c .before .before .before .before .before .before .before .before .either2 .ensures))
+          ∙ head-some _ _ ne),
+    )
+
+pub flush-spec : {M : Type 1} → statement M
+flush-spec =
+    tie.close
+    (tie.spec
+    returns
+    either-requires
+    either-requires-2
+    map-byte-requires
+    put-head-requires
+    add-t11
+    add-t12
+    add-t13
+    same-length
+    returns-2)

@@ -1,0 +1,92 @@
+-- `put_code` stores the record of a span of code.
+-- Assumes nothing.
+use mathlib.Core.Path.{_≡_, refl, sym, ap, ap₂, _∙_}
+use Prim.Native.Nat.{ℕ, _+_, _-_, _<_, _≤_}
+use native.Mathlib.Omega.{arith}
+use mathlib.Core.Bool.{Bool, true, false}
+use mathlib.Core.List.{List, [], _∷_}
+use lib.ListN.{length, getD, drop, take, length-take, length-drop}
+use lib.Seq.{sets}
+use Rattle.spans.specs.Turn.{map-byte}
+use Rattle.spans.proofs.Made.{same-state, code-empty, code-some}
+use borrow.Author.Needs.{needs}
+use Rattle.spans.proofs.put_code.Statement.{statement}
+use Rattle.spans.proofs.put_code.Tie as tie
+use Rattle.spans.proofs.put_code.Reads as reads
+use Rattle.spans.proofs.put_code.Lts as lts
+use Rattle.records.proofs.writer.put.Reads as put-reads
+use Rattle.records.proofs.writer.put_bytes.Reads as put-bytes-reads
+use Rattle.spans.proofs.either.Reads as either-reads
+use Rattle.spans.proofs.map_byte.Reads as map-byte-reads
+use Rattle.spans.proofs.put_head.Reads as put-head-reads
+
+either-requires : tie.Need-either-requires
+either-requires c κs = search needs
+
+either-requires-2 : tie.Need-either-requires-2
+either-requires-2 c κs = search needs
+
+add-count : tie.Need-add-count
+add-count c = search needs
+
+map-byte-requires : tie.Need-map-byte-requires
+map-byte-requires c κs = search needs
+
+put-requires : tie.Need-put-requires
+put-requires c κs = search needs
+
+add-at : tie.Need-add-at
+add-at c = search needs
+
+same-length : tie.Need-same-length
+same-length c = search needs
+
+returns : tie.Need-returns
+returns c = let a = c .before .before .before .before .before .before .before .before .before .before .before .before .args in
+    let m = c .before .before .before .before .map-byte .ensures ∙ ap₂ (λ (x y : Bool). map-byte x y true false) (c .before .before .before .before .before .before .before .before .before .either .ensures) (c .before .before .before .before .before .before .before .before .either2 .ensures) in
+    let both = code-empty (a .bold) (a .italic) (a .w) (a .out .now) _ _ (a .text .now) (c .before .before .before .before .before .before .if1 .taken) m (c .before .before .before .put .ensures) in
+    (same-state refl (both .0) refl refl refl refl, both .1)
+
+map-byte-requires-2 : tie.Need-map-byte-requires-2
+map-byte-requires-2 c κs = search needs
+
+put-head-requires : tie.Need-put-head-requires
+put-head-requires c κs = search needs
+
+add-start : tie.Need-add-start
+add-start c = search needs
+
+put-bytes-requires : tie.Need-put-bytes-requires
+put-bytes-requires c κs = search needs
+
+add-at-2 : tie.Need-add-at-2
+add-at-2 c = search needs
+
+same-length-2 : tie.Need-same-length-2
+same-length-2 c = search needs
+
+returns-2 : tie.Need-returns-2
+returns-2 c = let a = c .before .before .before .before .before .before .before .before .before .before .before .before .before .before .before .before .args in
+    let m = c .before .before .before .before .before .before .before .before .map-byte2 .ensures ∙ ap₂ (λ (x y : Bool). map-byte x y true true) (c .before .before .before .before .before .before .before .before .before .before .before .before .before .either .ensures) (c .before .before .before .before .before .before .before .before .before .before .before .before .either2 .ensures) in
+    let both = code-some (a .bold) (a .italic) (a .w) (a .out .now) _ _ (a .text .now) _ (c .before .before .before .before .before .before .before .before .before .before .if1 .left) m (c .before .before .before .before .before .before .before .put-head .ensures) (c .before .before .put-bytes .ensures) in
+    (same-state refl (both .0) refl refl refl refl, both .1)
+
+pub put-code-spec : {M : Type 1} → statement M
+put-code-spec =
+    tie.close
+    (tie.spec
+    either-requires
+    either-requires-2
+    add-count
+    map-byte-requires
+    put-requires
+    add-at
+    same-length
+    returns
+    map-byte-requires-2
+    put-head-requires
+    add-start
+    put-bytes-requires
+    add-at-2
+    same-length-2
+    returns-2)
