@@ -5,3 +5,6 @@ pub mod Reader
 pub mod Written
 pub mod Sound
 pub mod Complete
+pub mod Weight
+pub mod Says
+pub mod Facts

@@ -1,1 +1,4 @@
-// The sheet test.
+// The sheet test: document 01, "Sheet".
+mod count;
+mod line;
+mod list;
