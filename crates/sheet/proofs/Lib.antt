@@ -2,3 +2,6 @@
 mod TestTags
 mod TestMany
 mod TestText
+mod TestCount
+mod TestGist
+mod TestRuns

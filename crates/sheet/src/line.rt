@@ -115,3 +115,190 @@ fn glyph_at(page: &[u8], at: usize) -> Glyph
     }
     Glyph::No
 }
+
+// `\`, `*`, backtick, `[` or `!`.
+fn is_special(c: u32) -> bool
+    ensures { λ r. ⌜ r ≡ special c ⌝ }
+{
+    (c == 92) | (c == 42) | (c == 96) | (c == 91) | (c == 33)
+}
+
+// The counts of a character's written form.
+fn weight_of(c: u32) -> Count
+    ensures { λ r. ⌜ r ≡ weight (escaped (c ∷ [])) ⌝ }
+{
+    let n = text::width(c);
+    if is_special(c) {
+        return Count {
+            bytes: n + 1,
+            chars: 2,
+        };
+    }
+    Count { bytes: n, chars: 1 }
+}
+
+// No text yet.
+fn no_text() -> Gist
+    ensures { λ r. ⌜ r ≡ gist [] ⌝ }
+{
+    Gist {
+        count: Count { bytes: 0, chars: 0 },
+        any: false,
+        first: 32,
+        last: 32,
+        single: true,
+        calm: true,
+    }
+}
+
+fn pick(t: bool, a: u32, b: u32) -> u32
+    ensures { λ r. ⌜ r ≡ (if t then a else b) ⌝ }
+{
+    if t { a } else { b }
+}
+
+// One character more.
+fn pushed(g: Gist, c: u32) -> Gist
+    ensures { λ r. ⌜ r ≡ pushed g c ⌝ }
+{
+    let count = g.count;
+    Gist {
+        count: add(count, weight_of(c)),
+        any: true,
+        first: pick(g.any, g.first, c),
+        last: c,
+        single: g.single & !(g.any & ((g.last == 32) & (c == 32))),
+        calm: g.calm & !is_special(c),
+    }
+}
+
+// The text at `at`, as far as it goes.
+fn scan(page: &[u8], at: usize) -> Passage
+    ensures { λ r. ⌜ Scanned (now (page .entry)) at r ⌝ }
+{
+    let mut pos = at;
+    let mut gist = no_text();
+    loop {
+        let Glyph::At { code, next } = glyph_at(page, pos) else {
+            return Passage { next: pos, gist };
+        };
+        pos = next;
+        gist = pushed(gist, code);
+    }
+}
+
+// The kind of the run at `at`; a plain one where there is no tag of another.
+fn kind_at(page: &[u8], at: usize) -> Kind
+    ensures { λ r. ⌜ Opened (now (page .entry)) at (kind-of r) ⌝ }
+{
+    if text::starts_with(page, at, b"<strong><em>") {
+        return Kind::Both;
+    }
+    if text::starts_with(page, at, b"<strong>") {
+        return Kind::Strong;
+    }
+    if text::starts_with(page, at, b"<em>") {
+        return Kind::Em;
+    }
+    if text::starts_with(page, at, b"<code>") {
+        return Kind::Code;
+    }
+    Kind::Plain
+}
+
+// How long the tags before a run's text are.
+fn before(k: Kind) -> usize
+    ensures { λ r. ⌜ r ≡ length (before (kind-of k)) ⌝ }
+{
+    match k {
+        Kind::Plain => 0,
+        Kind::Strong => 8,
+        Kind::Em => 4,
+        Kind::Both => 12,
+        Kind::Code => 6,
+    }
+}
+
+// How long those after it are.
+fn after(k: Kind) -> usize
+    ensures { λ r. ⌜ r ≡ length (after (kind-of k)) ⌝ }
+{
+    match k {
+        Kind::Plain => 0,
+        Kind::Strong => 9,
+        Kind::Em => 5,
+        Kind::Both => 14,
+        Kind::Code => 7,
+    }
+}
+
+// Whether they stand at `at`.
+fn is_closed(page: &[u8], at: usize, k: Kind) -> bool
+    ensures { λ r. ⌜ Tagged (after (kind-of k)) (now (page .entry)) at r ⌝ }
+{
+    match k {
+        Kind::Plain => true,
+        Kind::Strong => text::starts_with(page, at, b"</strong>"),
+        Kind::Em => text::starts_with(page, at, b"</em>"),
+        Kind::Both => text::starts_with(page, at, b"</em></strong>"),
+        Kind::Code => text::starts_with(page, at, b"</code>"),
+    }
+}
+
+// How long the sign before or after a run's written text is.
+fn sign(k: Kind) -> usize
+    ensures { λ r. ⌜ r ≡ length (sign (kind-of k)) ⌝ }
+{
+    match k {
+        Kind::Plain => 0,
+        Kind::Strong => 2,
+        Kind::Em => 1,
+        Kind::Both => 3,
+        Kind::Code => 1,
+    }
+}
+
+fn is_plain(k: Kind) -> bool
+    ensures { λ r. ⌜ r ≡ is-plain (kind-of k) ⌝ }
+{
+    match k {
+        Kind::Plain => true,
+        Kind::Strong => false,
+        Kind::Em => false,
+        Kind::Both => false,
+        Kind::Code => false,
+    }
+}
+
+fn has_em(k: Kind) -> bool
+    ensures { λ r. ⌜ r ≡ has-em (kind-of k) ⌝ }
+{
+    match k {
+        Kind::Plain => false,
+        Kind::Strong => false,
+        Kind::Em => true,
+        Kind::Both => true,
+        Kind::Code => false,
+    }
+}
+
+// Whether two runs that touch must not.
+fn touches(k: Kind, l: Kind) -> bool
+    ensures { λ r. ⌜ r ≡ touch (kind-of k) (kind-of l) ⌝ }
+{
+    (is_plain(k) & is_plain(l)) | (has_em(k) & has_em(l))
+}
+
+// Whether a text may stand in a run of this kind: only a plain one may start or end with 32, and code holds nothing to be escaped.
+fn suits(k: Kind, g: Gist) -> bool
+    ensures { λ r. ⌜ r ≡ suits (kind-of k) g ⌝ }
+{
+    let edged = (g.first != 32) & (g.last != 32);
+    match k {
+        Kind::Plain => g.single & g.any,
+        Kind::Strong => g.single & edged,
+        Kind::Em => g.single & edged,
+        Kind::Both => g.single & edged,
+        Kind::Code => g.single & (edged & g.calm),
+    }
+}
