@@ -4,4 +4,6 @@ mod TestMany
 mod TestText
 mod TestCount
 mod TestGist
+mod TestSays
 mod TestRuns
+mod TestLine

@@ -302,3 +302,92 @@ fn suits(k: Kind, g: Gist) -> bool
         Kind::Code => g.single & (edged & g.calm),
     }
 }
+
+// One run at `at`.
+fn run(page: &[u8], at: usize) -> OneRun
+    ensures { λ r. ⌜ Ran (now (page .entry)) at (one-run (from (now (page .entry)) at)) r ⌝ }
+{
+    if page.len() <= at {
+        return OneRun::No;
+    }
+    let kind = kind_at(page, at);
+    let start = at + before(kind);
+    let passage = scan(page, start);
+    let end = passage.next;
+    let gist = passage.gist;
+    if !suits(kind, gist) {
+        return OneRun::No;
+    }
+    if !is_closed(page, end, kind) {
+        return OneRun::No;
+    }
+    OneRun::At {
+        next: end + after(kind),
+        kind,
+        gist,
+    }
+}
+
+fn is_letter(c: u32) -> bool
+    ensures { λ r. ⌜ r ≡ is-letter c ⌝ }
+{
+    text::within(65, 90, c) | text::within(97, 122, c)
+}
+
+// No run yet; no run touches a strong one that must not.
+fn no_runs() -> Runs
+    ensures { λ r. ⌜ r ≡ runs-of [] ⌝ }
+{
+    Runs {
+        count: Count { bytes: 0, chars: 0 },
+        last: Kind::Strong,
+        any: false,
+        apart: true,
+        letter: false,
+        solid: false,
+    }
+}
+
+fn choose(t: bool, a: bool, b: bool) -> bool
+    ensures { λ r. ⌜ r ≡ (if t then a else b) ⌝ }
+{
+    if t { a } else { b }
+}
+
+// One run more.
+fn joined(x: Runs, k: Kind, g: Gist) -> Runs
+    ensures { λ r. ⌜ r ≡ joined-by x k g ⌝ }
+{
+    let count = x.count;
+    let last = x.last;
+    let own = g.count;
+    let signs = ascii(2 * sign(k));
+    Runs {
+        count: add(count, add(signs, own)),
+        last: k,
+        any: true,
+        apart: x.apart & !touches(last, k),
+        letter: choose(x.any, x.letter, is_letter(g.first)),
+        solid: g.last != 32,
+    }
+}
+
+// A line at `at`: its runs, as far as they go.
+pub fn line(page: &[u8], at: usize) -> Read
+    ensures { λ r. ⌜ Says written-runs (now (page .entry)) at (line (from (now (page .entry)) at)) r ⌝ }
+{
+    let mut pos = at;
+    let mut runs = no_runs();
+    loop {
+        let OneRun::At { next, kind, gist } = run(page, pos) else {
+            break;
+        };
+        pos = next;
+        runs = joined(runs, kind, gist);
+    }
+    if runs.apart & runs.letter & runs.solid {
+        let count = runs.count;
+        return Read::At { next: pos, count };
+    }
+    Read::No
+}
