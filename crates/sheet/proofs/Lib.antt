@@ -7,3 +7,5 @@ mod TestGist
 mod TestSays
 mod TestRuns
 mod TestLine
+mod TestForms
+mod TestItems

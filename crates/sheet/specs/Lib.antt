@@ -8,3 +8,4 @@ pub mod Complete
 pub mod Weight
 pub mod Says
 pub mod Facts
+pub mod Forms
