@@ -9,3 +9,5 @@ mod TestRuns
 mod TestLine
 mod TestForms
 mod TestItems
+mod TestBlocks
+mod TestPage

@@ -9,3 +9,5 @@ pub mod Weight
 pub mod Says
 pub mod Facts
 pub mod Forms
+pub mod Calls
+pub mod Pages
