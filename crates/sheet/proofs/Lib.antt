@@ -11,3 +11,4 @@ mod TestForms
 mod TestItems
 mod TestBlocks
 mod TestPage
+pub mod TestCall

@@ -129,9 +129,9 @@ unfolding rows joined
 heading-weight n l {k} {a} {b} {c} e f g h =
     let p = str "\n\n" ++ (repeat (min n 3) "#" ++ str " ") in
     let q : weight p ≡ alike (min n 3 + 3) =
-      weight-ascii p (ascii-snoc (repeat (min n 3) "#") (hashes-ascii (min n 3)))
-      ∙ ap (λ (m : ℕ). alike (suc (suc m))) (length-append (repeat (min n 3) "#") (str " ") ∙ ap (λ (m : ℕ). m + 1) (hashes-length (min n 3)))
-      ∙ ap alike (omega arith) in
+    weight-ascii p (ascii-snoc (repeat (min n 3) "#") (hashes-ascii (min n 3)))
+    ∙ ap (λ (m : ℕ). alike (suc (suc m))) (length-append (repeat (min n 3) "#") (str " ") ∙ ap (λ (m : ℕ). m + 1) (hashes-length (min n 3)))
+    ∙ ap alike (omega arith) in
     h ∙ cc (f ∙ ap (λ (k : ℕ). alike (k + 3)) e ∙ sym q, g) ∙ sym (weight-append p (written-runs l))
     ∙ ap weight (ap (λ (m : List ℕ). str "\n\n" ++ m) (append-assoc (repeat (min n 3) "#") (str " ") (written-runs l)))
 
@@ -239,7 +239,7 @@ unfolding list-form rows
 list-weight x h {a} {b} {c} e f g =
     let r = some-row (x .0) (x .1) h in
     let z : list-form 0 x ≡ str "\n" ++ joined (str "\n") (map written-row (rows-from 0 (x .0) 1 (x .1))) =
-      ap led-rows (r .2) ∙ led-joined (r .0) (r .1) ∙ ap (λ (l : List Row). str "\n" ++ joined (str "\n") (map written-row l)) (sym (r .2)) in
+    ap led-rows (r .2) ∙ led-joined (r .0) (r .1) ∙ ap (λ (l : List Row). str "\n" ++ joined (str "\n") (map written-row l)) (sym (r .2)) in
     g ∙ cc (e ∙ sym (weight-ascii (str "\n") refl), f) ∙ sym (weight-append (str "\n") (list-form 0 x)) ∙ ap (λ (l : List ℕ). weight (str "\n" ++ l)) z
 
 -- ---- a block

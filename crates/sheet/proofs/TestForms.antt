@@ -55,7 +55,6 @@ digits-ascii (suc k) n = go (digits-ascii k (n / 10)) (ltb n 10) refl
     go ih true e = let l = ltb-true n 10 e in rw (lt-ltb (48 + n) 0x80 (omega arith))
     go ih false e = ascii-append (digits k (n / 10)) ((48 + n % 10) ∷ []) ih (rw (lt-ltb (48 + n % 10) 0x80 (omega arith)))
 
-
 -- ---- what stands before an item's line
 indent-ascii : (d : ℕ) → ascii (repeat d "  ") ≡ true
 indent-ascii zero = refl

@@ -188,7 +188,7 @@ module _ (v d : ℕ) (m : Mark) (page : List ℕ) (start : ℕ) where
       let xs = s .read in
       let q : p ≡ place m (length xs + 1) = e ∙ ap (λ (n : ℕ). place m (n + 1)) (s .many) in
       let c : b ≡ added (weight (led-rows (rows-from d m 1 (items xs)))) (weight (item-form d (place m (length xs + 1)) x)) =
-        f ∙ cc (s .kept, g .count, ap (λ (p : ℕ). weight (item-form d p x)) q) in
+      f ∙ cc (s .kept, g .count, ap (λ (p : ℕ). weight (item-form d p x)) q) in
       let l₁ = s .later in
       let l₂ = g .later in
       let l₃ = k .later in

@@ -77,10 +77,12 @@ module _ {A : Type 0} where
 
   pub to-more : (p : List ℕ → Answer A) → Shrinks p → {s m r : List ℕ} {xs : List A} {x : A} → Read-to p s xs m → p m ≡ some (x, r) → Read-to p s (xs ++ (x ∷ [])) r
   to-more p h {s} {m} {r} {xs} {x} t e =
-      record { so-far =
-          t .so-far
-          ∙ ap (λ (y : List A × List ℕ). (xs ++ y .0, y .1)) (every-more p h m e)
-          ∙ ap (λ (l : List A). (l, every p r .1)) (sym (append-snoc xs x (every p r .0))) }
+      record {
+        so-far =
+            t .so-far
+            ∙ ap (λ (y : List A × List ℕ). (xs ++ y .0, y .1)) (every-more p h m e)
+            ∙ ap (λ (l : List A). (l, every p r .1)) (sym (append-snoc xs x (every p r .0)));
+      }
 
   pub to-stop : (p : List ℕ → Answer A) {s m : List ℕ} {xs : List A} → Read-to p s xs m → p m ≡ none → every p s ≡ (xs, m)
   to-stop p {s} {m} {xs} t e =

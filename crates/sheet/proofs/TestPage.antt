@@ -141,7 +141,7 @@ module _ (page : List ℕ) (u : is-utf8 page ≡ true) (start : ℕ) (k : Skippe
       let z : nl? (from page 0) ≡ from page start = r in
       let f : every (then-nl block) (from page start) ≡ (b .read, from page pos) = to-stop (then-nl block) (b .to) (rw e) in
       let g : many (then-nl block) (length (from page 0)) (nl? (from page 0)) ≡ (b .read, from page pos) =
-        many-every (then-nl block) (then-nl-shrinks block block-shrinks) (length (from page 0)) (nl? (from page 0)) l ∙ ap (every (then-nl block)) z ∙ f in
+      many-every (then-nl block) (then-nl-shrinks block block-shrinks) (length (from page 0)) (nl? (from page 0)) l ∙ ap (every (then-nl block)) z ∙ f in
       rw g
 
   call-is : sheet-call page ≡ case (sheet (from page 0)) no-sheet (λ t. yes-sheet (size (written t)) (length (written t)))

@@ -110,10 +110,12 @@ text-none s = record { so-far = refl }
 
 pub text-next : {s t m r : List ℕ} (c : ℕ) → Text-to s t m → char m ≡ some (c ∷ [], r) → Text-to s (t ++ (c ∷ [])) r
 text-next {s} {t} {m} {r} c h e =
-    record { so-far =
-        h .so-far
-        ∙ ap (λ (y : List ℕ × List ℕ). (t ++ y .0, y .1)) (text-more m e)
-        ∙ ap (λ (l : List ℕ). (l, text r .1)) (sym (append-assoc t (c ∷ []) (text r .0))) }
+    record {
+      so-far =
+          h .so-far
+          ∙ ap (λ (y : List ℕ × List ℕ). (t ++ y .0, y .1)) (text-more m e)
+          ∙ ap (λ (l : List ℕ). (l, text r .1)) (sym (append-assoc t (c ∷ []) (text r .0)));
+    }
 
 pub text-ends : {s t m : List ℕ} → Text-to s t m → char m ≡ none → text s ≡ (t, m)
 text-ends {s} {t} {m} h e =

@@ -13,7 +13,6 @@ ghost use Rattle.sheet.specs.Written.{escaped, sign, written-runs};
 ghost use Rattle.sheet.specs.Weight.{weight};
 ghost use Rattle.sheet.specs.Says.{from, Says, Tagged, Skipped};
 ghost use Rattle.sheet.specs.Facts.{Spelt, gist, pushed, Scanned, kind-of, is-plain, has-em, suits, Opened, Ran, runs-of, joined-by, neat-of};
-
 use crate::count::Count;
 use crate::count::Read;
 use crate::count::add;
@@ -51,11 +50,7 @@ pub enum Kind {
 }
 
 pub enum OneRun {
-    At {
-        next: usize,
-        kind: Kind,
-        gist: Gist,
-    },
+    At { next: usize, kind: Kind, gist: Gist },
     No,
 }
 
@@ -96,22 +91,40 @@ fn glyph_at(page: &[u8], at: usize) -> Glyph
     }
     let code = text::code_at(page, at);
     if is_shown(code) {
-        return Glyph::At { code, next: at + text::width(code) };
+        return Glyph::At {
+            code,
+            next: at + text::width(code),
+        };
     }
     if text::starts_with(page, at, b" ") {
-        return Glyph::At { code: 32, next: at + 1 };
+        return Glyph::At {
+            code: 32,
+            next: at + 1,
+        };
     }
     if text::starts_with(page, at, b"&lt;") {
-        return Glyph::At { code: 60, next: at + 4 };
+        return Glyph::At {
+            code: 60,
+            next: at + 4,
+        };
     }
     if text::starts_with(page, at, b"&amp;") {
-        return Glyph::At { code: 38, next: at + 5 };
+        return Glyph::At {
+            code: 38,
+            next: at + 5,
+        };
     }
     if text::starts_with(page, at, b"&gt;") {
-        return Glyph::At { code: 62, next: at + 4 };
+        return Glyph::At {
+            code: 62,
+            next: at + 4,
+        };
     }
     if text::starts_with(page, at, b"&quot;") {
-        return Glyph::At { code: 34, next: at + 6 };
+        return Glyph::At {
+            code: 34,
+            next: at + 6,
+        };
     }
     Glyph::No
 }

@@ -11,7 +11,6 @@ ghost use Rattle.sheet.specs.Written.{place};
 ghost use Rattle.sheet.specs.Weight.{weight};
 ghost use Rattle.sheet.specs.Says.{from, Says, Tagged};
 ghost use Rattle.sheet.specs.Forms.{row-lead, item-form, list-form, mark-of, Begun};
-
 use crate::count::Count;
 use crate::count::Read;
 use crate::count::add;
@@ -99,7 +98,11 @@ fn item(page: &[u8], at: usize, levels: usize, place: usize) -> Read
         };
     }
     let start = nl(page, next);
-    let Read::At { next: past, count: sub } = list(page, start, levels) else {
+    let Read::At {
+        next: past,
+        count: sub,
+    } = list(page, start, levels)
+    else {
         return Read::No;
     };
     let end = nl(page, past);
@@ -127,7 +130,8 @@ pub fn list(page: &[u8], at: usize, levels: usize) -> Read
     let mut count = ascii(0);
     let mut n: usize = 0;
     loop {
-        let Read::At { next, count: more } = item(page, pos, levels - 1, place(ordered, n + 1)) else {
+        let Read::At { next, count: more } = item(page, pos, levels - 1, place(ordered, n + 1))
+        else {
             break;
         };
         pos = nl(page, next);

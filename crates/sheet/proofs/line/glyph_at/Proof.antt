@@ -50,7 +50,7 @@ add-t17 : tie.Need-add-t17
 add-t17 c = let a = c .before .before .before .before .before .before .before .before .args in let t = stands (str " ") (a .page .now) (a .at) refl (c .before .starts-with .ensures) (c .if3 .taken) in omega (arith, t .inside (omega arith))
 
 returns-3 : tie.Need-returns-3
-returns-3 c = let a = c .before .before .before .before .before .before .before .before .args in let o = not-own (a .page .now) (a .at) (c .before .before .before .before .before .before .if1 .left) (sym (c .before .before .before .before .is-shown .ensures ∙ ap shown (c .before .before .before .before .before .code-at .ensures)) ∙ c .before .before .before .if2 .left) in let t = stands (str " ") (a .page .now) (a .at) refl (c .before .starts-with .ensures) (c .if3 .taken) in let i = t .inside (omega arith) in spells (a .page .now) (a .at) (char (from (a .page .now) (a .at))) 32 (a .at + 1) (char-1 (from (a .page .now) (a .at)) o  (t .off)) (omega arith) i
+returns-3 c = let a = c .before .before .before .before .before .before .before .before .args in let o = not-own (a .page .now) (a .at) (c .before .before .before .before .before .before .if1 .left) (sym (c .before .before .before .before .is-shown .ensures ∙ ap shown (c .before .before .before .before .before .code-at .ensures)) ∙ c .before .before .before .if2 .left) in let t = stands (str " ") (a .page .now) (a .at) refl (c .before .starts-with .ensures) (c .if3 .taken) in let i = t .inside (omega arith) in spells (a .page .now) (a .at) (char (from (a .page .now) (a .at))) 32 (a .at + 1) (char-1 (from (a .page .now) (a .at)) o (t .off)) (omega arith) i
 
 slice-aggregate-starts-with-2 : tie.Need-slice-aggregate-starts-with-2
 slice-aggregate-starts-with-2 c = search needs

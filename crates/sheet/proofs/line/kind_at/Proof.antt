@@ -18,7 +18,7 @@ starts-with-requires : tie.Need-starts-with-requires
 starts-with-requires c κs = search needs
 
 returns : tie.Need-returns
-returns c = let a = c .before .before .before .before .args in kind-1 (a .page .now) (a .at)  (stands (str "<strong><em>") (a .page .now) (a .at) refl (c .before .starts-with .ensures) (c .if1 .taken))
+returns c = let a = c .before .before .before .before .args in kind-1 (a .page .now) (a .at) (stands (str "<strong><em>") (a .page .now) (a .at) refl (c .before .starts-with .ensures) (c .if1 .taken))
 
 slice-aggregate-starts-with-2 : tie.Need-slice-aggregate-starts-with-2
 slice-aggregate-starts-with-2 c = search needs
