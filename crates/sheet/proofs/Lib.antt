@@ -28,3 +28,17 @@ pub mod SheetWf
 pub mod SheetRecords
 pub mod ReadExamples
 pub mod Agrees
+-- What the proofs of several functions use.
+mod TestTags
+mod TestMany
+mod TestText
+mod TestCount
+mod TestGist
+mod TestSays
+mod TestRuns
+mod TestLine
+mod TestForms
+mod TestItems
+mod TestBlocks
+mod TestPage
+pub mod TestCall

@@ -6,3 +6,9 @@ pub mod Written
 pub mod Sound
 pub mod Complete
 pub mod Sheet
+pub mod Weight
+pub mod Says
+pub mod Facts
+pub mod Forms
+pub mod Calls
+pub mod Pages

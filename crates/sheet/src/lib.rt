@@ -1,1 +1,150 @@
-// The sheet test.
+// The sheet test: document 01, "Sheet".
+ghost use mathlib.Core.Path.{_≡_};
+ghost use Prim.Native.Nat.{_-_, _≤_, min};
+ghost use Rattle.sheet.specs.Reader.{headed, read-heading, read-para, block};
+ghost use Rattle.sheet.specs.Says.{from, Says};
+ghost use Rattle.sheet.specs.Forms.{block-form};
+ghost use Rattle.sheet.specs.Pages.{judged};
+ghost use Rattle.sheet.specs.Calls.{sheet-call, answer};
+
+mod count;
+mod line;
+mod list;
+
+use count::Count;
+use count::Read;
+use count::add;
+use count::ascii;
+use line::line;
+use line::nl;
+use list::list;
+
+pub enum Verdict {
+    // A sheet, and how many bytes and characters its written form has.
+    Yes { bytes: usize, chars: usize },
+    // No sheet.
+    No,
+    // Refusal 1.
+    NotUtf8,
+}
+
+// The smaller of n and 3.
+fn level(n: u8) -> usize
+    ensures { λ r. ⌜ r ≡ min n 3 ⌝ }
+{
+    if n < 3 { n as usize } else { 3 }
+}
+
+// A heading of number n after its digit.
+fn headed(page: &[u8], at: usize, n: u8) -> Read
+    requires { ⌜ n ≤ 6 ⌝ }
+    ensures { λ r. ⌜ Says block-form (now (page .entry)) at (headed n (from (now (page .entry)) at)) r ⌝ }
+{
+    if !text::starts_with(page, at, b">") {
+        return Read::No;
+    }
+    let Read::At { next, count } = line(page, at + 1) else {
+        return Read::No;
+    };
+    let close = [60, 47, 104, 48 + n, 62];
+    if !text::starts_with(page, next, &close) {
+        return Read::No;
+    }
+    Read::At {
+        next: next + 5,
+        count: add(ascii(level(n) + 3), count),
+    }
+}
+
+fn heading(page: &[u8], at: usize) -> Read
+    ensures { λ r. ⌜ Says block-form (now (page .entry)) at (read-heading (from (now (page .entry)) at)) r ⌝ }
+{
+    if !text::starts_with(page, at, b"<h") {
+        return Read::No;
+    }
+    let c = text::code_at(page, at + 2);
+    if !text::within(49, 54, c) {
+        return Read::No;
+    }
+    headed(page, at + 3, (c - 48) as u8)
+}
+
+fn paragraph(page: &[u8], at: usize) -> Read
+    ensures { λ r. ⌜ Says block-form (now (page .entry)) at (read-para (from (now (page .entry)) at)) r ⌝ }
+{
+    if !text::starts_with(page, at, b"<p>") {
+        return Read::No;
+    }
+    let Read::At { next, count } = line(page, at + 3) else {
+        return Read::No;
+    };
+    if !text::starts_with(page, next, b"</p>") {
+        return Read::No;
+    }
+    Read::At {
+        next: next + 4,
+        count: add(ascii(2), count),
+    }
+}
+
+// A block at `at`; at most 8 lists are open together.
+fn block(page: &[u8], at: usize) -> Read
+    ensures { λ r. ⌜ Says block-form (now (page .entry)) at (block (from (now (page .entry)) at)) r ⌝ }
+{
+    if let Read::At { next, count } = heading(page, at) {
+        return Read::At { next, count };
+    }
+    if let Read::At { next, count } = paragraph(page, at) {
+        return Read::At { next, count };
+    }
+    let Read::At { next, count } = list(page, at, 8) else {
+        return Read::No;
+    };
+    Read::At {
+        next,
+        count: add(ascii(1), count),
+    }
+}
+
+// Without the two bytes 10 before the first block.
+fn without_lead(n: usize) -> usize
+    ensures { λ r. ⌜ r ≡ n - 2 ⌝ }
+{
+    if n < 2 { 0 } else { n - 2 }
+}
+
+// Whether a page whose blocks have these counts is a sheet.
+fn judged(count: Count) -> Verdict
+    ensures { λ r. ⌜ r ≡ judged count ⌝ }
+{
+    let bytes = without_lead(count.bytes);
+    let chars = without_lead(count.chars);
+    if bytes < 16_000 {
+        if chars <= 8_000 {
+            return Verdict::Yes { bytes, chars };
+        }
+    }
+    Verdict::No
+}
+
+// Whether the page is a sheet.
+pub fn sheet(page: &[u8]) -> Verdict
+    ensures { λ r. ⌜ answer r ≡ sheet-call (now (page .entry)) ⌝ }
+{
+    if !text::is_utf8(page) {
+        return Verdict::NotUtf8;
+    }
+    let mut pos = nl(page, 0);
+    let mut count = ascii(0);
+    loop {
+        let Read::At { next, count: more } = block(page, pos) else {
+            break;
+        };
+        pos = nl(page, next);
+        count = add(count, more);
+    }
+    if pos < page.len() {
+        return Verdict::No;
+    }
+    judged(count)
+}

@@ -1,0 +1,280 @@
+-- Blocks: what the reader's answers are made of, and their counts.
+-- Assumes nothing.
+use Prim.Native.Nat.{ℕ, zero, suc, _+_, _-_, _≤_, _<_, min}
+use native.Mathlib.Omega.{arith}
+use mathlib.Core.Path.{_≡_, refl, sym, _∙_, ap, subst}
+use mathlib.Core.Bool.{Bool, true, false, _&&_}
+use mathlib.Core.Option.{Option, none, some}
+use mathlib.Core.Logic.{⊎-elim}
+use mathlib.Core.List.{List, [], _∷_, _++_, append-nil, append-assoc, map}
+use borrow.Author.Tests.{lt-ltb, ltb-true, ltb-false}
+use lib.Dec.{ltb}
+use lib.ListN.{length, getD, length-append}
+use Rattle.text.specs.Words.{str, repeat, _>>=_}
+use Rattle.text.specs.Chars.{within}
+use Rattle.text.specs.Utf8.{utf8, code-at}
+use Rattle.text.proofs.Tests.{within-true, decide, and-true}
+use Rattle.text.proofs.Laws.{turn-is, advance-end, utf8-ascii}
+use Rattle.sheet.specs.Reading.{guard, _<|>_, strip, many}
+use Rattle.sheet.specs.Tree.{Run, Mark, ul, ol, Items, end, leaf, node, Item, alone, with, items, Block, heading, para, list}
+use Rattle.sheet.specs.Grammar.{closes, closes-h}
+use Rattle.sheet.specs.Reader.{Answer, nl?, line, item, then-nl, some-items, marked, list-of, read-list, digit, headed, read-heading, read-para, block}
+use Rattle.sheet.specs.Written.{Row, rows-from, rows, written-runs, written-row, joined, written-block}
+use Rattle.sheet.specs.Weight.{weight, alike, added}
+use Rattle.sheet.specs.Says.{from, Past, Says}
+use Rattle.sheet.specs.Forms.{led-rows, list-form, block-form}
+use Rattle.sheet.specs.Sound.{none-some, bind-inv, guard-inv, alt-inv}
+use Rattle.sheet.specs.declared.count.Count.{Count}
+use Rattle.sheet.specs.declared.count.Read.{Read}
+use Rattle.sheet.specs.declared.count.Read.the-variants.{At, No}
+use Rattle.sheet.proofs.TestTags.{ascii, Stands}
+use Rattle.sheet.proofs.TestCount.{weight-append, weight-ascii}
+use Rattle.sheet.proofs.TestMany.{Shrinks, strip-shrinks}
+use Rattle.sheet.proofs.TestSays.{Got, says-no, says-at, answers, refuses}
+use Rattle.sheet.proofs.TestItems.{line-shrinks, read-list-shrinks}
+
+-- ---- what is read leaves less
+digit-shrinks : (s : List ℕ) (y : ℕ × List ℕ) → digit s ≡ some y → length (y .1) < length s
+digit-shrinks [] y e = none-some e
+digit-shrinks (b ∷ s) y e =
+    let g = guard-inv (within 49 54 b) _ e in
+    let z : (b - 48, s) ≡ y = cc (g .1) in
+    omega (arith, ap (λ (y : ℕ × List ℕ). length (y .1)) z)
+
+headed-shrinks : (n : ℕ) → Shrinks (headed n)
+unfolding headed
+headed-shrinks n s y e =
+    let o = bind-inv (strip (str ">") s) _ e in
+    let l = bind-inv (line (o .0)) _ (o .2) in
+    let c = bind-inv (strip (closes-h n) (l .0 .1)) _ (l .2) in
+    let z : (heading n (l .0 .0), c .0) ≡ y = cc (c .2) in
+    let l₁ = strip-shrinks (str ">") s (o .1) in
+    let l₂ = line-shrinks (o .0) (l .0) (l .1) in
+    let l₃ = strip-shrinks (closes-h n) (l .0 .1) (c .1) in
+    omega (arith, ap (λ (y : Block × List ℕ). length (y .1)) z)
+
+heading-shrinks : Shrinks read-heading
+unfolding read-heading
+heading-shrinks s y e =
+    let o = bind-inv (strip (str "<h") s) _ e in
+    let n = bind-inv (digit (o .0)) _ (o .2) in
+    let l₁ = strip-shrinks (str "<h") s (o .1) in
+    let l₂ = digit-shrinks (o .0) (n .0) (n .1) in
+    let l₃ = headed-shrinks (n .0 .0) (n .0 .1) y (n .2) in
+    omega arith
+
+para-shrinks : Shrinks read-para
+unfolding read-para
+para-shrinks s y e =
+    let o = bind-inv (strip (str "<p>") s) _ e in
+    let l = bind-inv (line (o .0)) _ (o .2) in
+    let c = bind-inv (strip (str "</p>") (l .0 .1)) _ (l .2) in
+    let z : (para (l .0 .0), c .0) ≡ y = cc (c .2) in
+    let l₁ = strip-shrinks (str "<p>") s (o .1) in
+    let l₂ = line-shrinks (o .0) (l .0) (l .1) in
+    let l₃ = strip-shrinks (str "</p>") (l .0 .1) (c .1) in
+    omega (arith, ap (λ (y : Block × List ℕ). length (y .1)) z)
+
+pub block-shrinks : Shrinks block
+unfolding block
+block-shrinks s y e =
+    ⊎-elim (heading-shrinks s y) (λ e. ⊎-elim (para-shrinks s y) by-list (alt-inv (read-para s) _ e)) (alt-inv (read-heading s) _ e)
+  where
+    by-list : (read-list 8 s >>= λ x. some (list (x .0 .0) (x .0 .1), x .1)) ≡ some y → length (y .1) < length s
+    by-list e =
+        let b = bind-inv (read-list 8 s) _ e in
+        let z : (list (b .0 .0 .0) (b .0 .0 .1), b .0 .1) ≡ y = cc (b .2) in
+        let l = read-list-shrinks 8 s (b .0) (b .1) in
+        omega (arith, ap (λ (y : Block × List ℕ). length (y .1)) z)
+
+-- ---- a heading
+module _ (n : ℕ) (s : List ℕ) where
+  pub headed-1 : strip (str ">") s ≡ none → headed n s ≡ none
+  unfolding headed
+  headed-1 e = rw e
+
+  module _ (s₁ : List ℕ) (e : strip (str ">") s ≡ some s₁) where
+    pub headed-2 : line s₁ ≡ none → headed n s ≡ none
+    unfolding headed
+    headed-2 f = rw (e, f)
+
+    module _ (l : List Run) (s₂ : List ℕ) (f : line s₁ ≡ some (l, s₂)) where
+      headed-is : headed n s ≡ (strip (closes-h n) s₂ >>= λ r. some (heading n l, r))
+      unfolding headed
+      headed-is = rw (e, f)
+
+      pub headed-3 : strip (closes-h n) s₂ ≡ none → headed n s ≡ none
+      headed-3 g = headed-is ∙ ap (λ (o : Option (List ℕ)). _>>=_ {B = Block × List ℕ} o (λ r. some (heading n l, r))) g
+
+      pub headed-4 : {r : List ℕ} → strip (closes-h n) s₂ ≡ some r → headed n s ≡ some (heading n l, r)
+      headed-4 g = headed-is ∙ ap (λ (o : Option (List ℕ)). _>>=_ {B = Block × List ℕ} o (λ r. some (heading n l, r))) g
+
+pub close-ascii : (n : ℕ) → n ≤ 6 → ascii (60 ∷ 47 ∷ 104 ∷ (48 + n) ∷ 62 ∷ []) ≡ true
+close-ascii n h = rw (lt-ltb (48 + n) 0x80 (omega arith))
+
+hashes-ascii : (n : ℕ) → ascii (repeat n "#") ≡ true
+hashes-ascii zero = refl
+hashes-ascii (suc n) = hashes-ascii n
+
+hashes-length : (n : ℕ) → length (repeat n "#") ≡ n
+hashes-length zero = refl
+hashes-length (suc n) = let h = hashes-length n in omega arith
+
+ascii-snoc : (l : List ℕ) → ascii l ≡ true → ascii (l ++ str " ") ≡ true
+ascii-snoc [] h = refl
+ascii-snoc (a ∷ l) h = let g = and-true (ltb a 0x80) (ascii l) h in rw (g .0) (ascii-snoc l (g .1))
+
+pub heading-weight : (n : ℕ) (l : List Run) {k : ℕ} {a b c : Count} → k ≡ min n 3 → a ≡ alike (k + 3) → b ≡ weight (written-runs l) → c ≡ added a b → c ≡ weight (block-form (heading n l))
+unfolding rows joined
+heading-weight n l {k} {a} {b} {c} e f g h =
+    let p = str "\n\n" ++ (repeat (min n 3) "#" ++ str " ") in
+    let q : weight p ≡ alike (min n 3 + 3) =
+    weight-ascii p (ascii-snoc (repeat (min n 3) "#") (hashes-ascii (min n 3)))
+    ∙ ap (λ (m : ℕ). alike (suc (suc m))) (length-append (repeat (min n 3) "#") (str " ") ∙ ap (λ (m : ℕ). m + 1) (hashes-length (min n 3)))
+    ∙ ap alike (omega arith) in
+    h ∙ cc (f ∙ ap (λ (k : ℕ). alike (k + 3)) e ∙ sym q, g) ∙ sym (weight-append p (written-runs l))
+    ∙ ap weight (ap (λ (m : List ℕ). str "\n\n" ++ m) (append-assoc (repeat (min n 3) "#") (str " ") (written-runs l)))
+
+-- ---- the digit of a heading
+module _ (page : List ℕ) (at : ℕ) (e : strip (str "<h") (from page at) ≡ some (from page (at + 2))) where
+  no-digit : within 49 54 (code-at page (at + 2)) ≡ false → digit (from page (at + 2)) ≡ none
+  no-digit h = ⊎-elim (λ l. rw (turn-is page (at + 2) (ltb-true (at + 2) (length page) l) .rest, h)) (λ l. rw (advance-end page (at + 2) (ltb-false (at + 2) (length page) l))) (decide (ltb (at + 2) (length page)))
+
+  pub heading-2 : within 49 54 (code-at page (at + 2)) ≡ false → read-heading (from page at) ≡ none
+  unfolding read-heading
+  heading-2 h = rw (e, no-digit h)
+
+pub heading-1 : (page : List ℕ) (at : ℕ) → strip (str "<h") (from page at) ≡ none → read-heading (from page at) ≡ none
+unfolding read-heading
+heading-1 page at e = rw e
+
+pub heading-in : (page : List ℕ) (at : ℕ) {r : Bool} → r ≡ within 49 54 (code-at page at) → r ≡ true → (49 ≤ code-at page at) × (code-at page at ≤ 54) × (at < length page)
+unfolding code-at
+heading-in page at e f =
+    let h = within-true 49 54 (code-at page at) (sym e ∙ f) in
+    (h .0, h .1, ⊎-elim (λ l. ltb-true at (length page) l) (λ l. absurd (past (h .0) (ltb-false at (length page) l))) (decide (ltb at (length page))))
+  where
+    past : 49 ≤ code-at page at → length page ≤ at → ⊥
+    past h l = let z = ap (λ (s : List ℕ). getD s 0 0) (advance-end page at l) in omega arith
+
+says-later : {A : Type 0} (form : A → List ℕ) (page : List ℕ) (at start : ℕ) (o : Answer A) (r : Read) → at ≤ start → Says form page start o r → Says form page at o r
+says-later form page at start none r l h = h
+says-later form page at start (some x) r l h = (h .0, h .1, record { starts = h .2 .starts; later = let p = h .2 .later in omega arith; within = h .2 .within })
+
+module _ (page : List ℕ) (at : ℕ) (e : strip (str "<h") (from page at) ≡ some (from page (at + 2))) (n : ℕ) (q : n ≡ code-at page (at + 2) - 48) (h : within 49 54 (code-at page (at + 2)) ≡ true) where
+  after-digit : digit (from page (at + 2)) ≡ some (n, from page (at + 3))
+  after-digit =
+      let i = heading-in page (at + 2) refl h in
+      let t = turn-is page (at + 2) (i .2) in
+      let c = code-at page (at + 2) in
+      let z : at + 2 + length (utf8 c) ≡ at + 3 = omega (arith, ap length (utf8-ascii c (omega arith))) in
+      let s : from page (at + 2) ≡ c ∷ from page (at + 3) = t .rest ∙ ap (λ (k : ℕ). c ∷ from page k) z in
+      rw (s, h) (ap (λ (k : ℕ). some (k, from page (at + 3))) (sym q))
+
+  heading-is : read-heading (from page at) ≡ headed n (from page (at + 3))
+  unfolding read-heading
+  heading-is = rw (e, after-digit)
+
+  pub heading-3 : (r : Read) → Says block-form page (at + 3) (headed n (from page (at + 3))) r → Says block-form page at (read-heading (from page at)) r
+  heading-3 r s = subst (λ (o : Answer Block). Says block-form page at o r) (sym heading-is) (says-later block-form page at (at + 3) (headed n (from page (at + 3))) r (omega arith) s)
+
+-- ---- a paragraph
+module _ (s : List ℕ) where
+  pub para-1 : strip (str "<p>") s ≡ none → read-para s ≡ none
+  unfolding read-para
+  para-1 e = rw e
+
+  module _ (s₁ : List ℕ) (e : strip (str "<p>") s ≡ some s₁) where
+    pub para-2 : line s₁ ≡ none → read-para s ≡ none
+    unfolding read-para
+    para-2 f = rw (e, f)
+
+    module _ (l : List Run) (s₂ : List ℕ) (f : line s₁ ≡ some (l, s₂)) where
+      pub para-3 : strip (str "</p>") s₂ ≡ none → read-para s ≡ none
+      unfolding read-para
+      para-3 g = rw (e, f, g)
+
+      pub para-4 : {r : List ℕ} → strip (str "</p>") s₂ ≡ some r → read-para s ≡ some (para l, r)
+      unfolding read-para
+      para-4 g = rw (e, f, g)
+
+pub para-weight : (l : List Run) {a b c : Count} → a ≡ alike 2 → b ≡ weight (written-runs l) → c ≡ added a b → c ≡ weight (block-form (para l))
+unfolding rows joined
+para-weight l e f g = g ∙ cc (e ∙ sym (weight-ascii (str "\n\n") refl), f) ∙ sym (weight-append (str "\n\n") (written-runs l))
+
+-- ---- a list as a block
+led-joined : (r : Row) (rs : List Row) → led-rows (r ∷ rs) ≡ str "\n" ++ joined (str "\n") (map written-row (r ∷ rs))
+unfolding led-rows joined
+led-joined r [] = append-nil (str "\n" ++ written-row r)
+led-joined r (q ∷ rs) = ap (λ (l : List ℕ). (str "\n" ++ written-row r) ++ l) (led-joined q rs)
+
+abbrev its-filled : Items → Bool
+its-filled end = false
+its-filled (leaf l its) = true
+its-filled (node l m sub its) = true
+
+some-row : (m : Mark) (its : Items) → its-filled its ≡ true → (r : Row) × (rs : List Row) × (rows-from 0 m 1 its ≡ r ∷ rs)
+unfolding rows-from
+some-row m end h = let z : _≡_ {A = ℕ} 0 1 = cc in absurd (omega arith)
+some-row m (leaf l its) h = (_, _, refl)
+some-row m (node l k sub its) h = (_, _, refl)
+
+list-filled : (s : List ℕ) (y : (Mark × Items) × List ℕ) → read-list 8 s ≡ some y → its-filled (y .0 .1) ≡ true
+unfolding read-list list-of
+list-filled s y e =
+    let m = bind-inv (marked ul s <|> marked ol s) _ e in
+    let x = many (then-nl (item (read-list 7))) (length s) (nl? (m .0 .1)) in
+    let i = bind-inv (some-items (x .0)) _ (m .2) in
+    let c = bind-inv (strip (closes (m .0 .0)) (x .1)) _ (i .2) in
+    let z : ((m .0 .0, i .0), c .0) ≡ y = cc (c .2) in
+    ap (λ (y : (Mark × Items) × List ℕ). its-filled (y .0 .1)) (sym z) ∙ go (x .0) (i .0) (i .1)
+  where
+    go : (xs : List Item) (its : Items) → some-items xs ≡ some its → its-filled its ≡ true
+    go [] its e = none-some e
+    go (alone l ∷ xs) its e = let z : items (alone l ∷ xs) ≡ its = cc in ap its-filled (sym z)
+    go (with l k sub ∷ xs) its e = let z : items (with l k sub ∷ xs) ≡ its = cc in ap its-filled (sym z)
+
+list-weight : (x : Mark × Items) → its-filled (x .1) ≡ true → {a b c : Count} → a ≡ alike 1 → b ≡ weight (list-form 0 x) → c ≡ added a b → c ≡ weight (block-form (list (x .0) (x .1)))
+unfolding list-form rows
+list-weight x h {a} {b} {c} e f g =
+    let r = some-row (x .0) (x .1) h in
+    let z : list-form 0 x ≡ str "\n" ++ joined (str "\n") (map written-row (rows-from 0 (x .0) 1 (x .1))) =
+    ap led-rows (r .2) ∙ led-joined (r .0) (r .1) ∙ ap (λ (l : List Row). str "\n" ++ joined (str "\n") (map written-row l)) (sym (r .2)) in
+    g ∙ cc (e ∙ sym (weight-ascii (str "\n") refl), f) ∙ sym (weight-append (str "\n") (list-form 0 x)) ∙ ap (λ (l : List ℕ). weight (str "\n" ++ l)) z
+
+-- ---- a block
+module _ (page : List ℕ) (at : ℕ) where
+  alt-some : {A : Type 0} (o p : Option A) {x : A} → o ≡ some x → (o <|> p) ≡ some x
+  alt-some o p e = rw e
+
+  alt-none : {A : Type 0} (o p : Option A) → o ≡ none → (o <|> p) ≡ p
+  alt-none o p e = rw e
+
+  abbrev s : List ℕ
+  s = from page at
+
+  abbrev listed : Answer Block
+  listed = read-list 8 s >>= λ x. some (list (x .0 .0) (x .0 .1), x .1)
+
+  pub block-1 : {n : ℕ} {w : Count} → Got block-form page at (read-heading s) n w → Says block-form page at (block s) (At n w)
+  unfolding block
+  block-1 g = answers block-form page at (block s) (alt-some (read-heading s) (read-para s <|> listed) (g .is)) (g .count) (g .later) (g .within)
+
+  module _ (e : read-heading s ≡ none) where
+    pub block-2 : {n : ℕ} {w : Count} → Got block-form page at (read-para s) n w → Says block-form page at (block s) (At n w)
+    unfolding block
+    block-2 g =
+        answers block-form page at (block s) (alt-none (read-heading s) (read-para s <|> listed) e ∙ alt-some (read-para s) listed (g .is)) (g .count) (g .later) (g .within)
+
+    module _ (f : read-para s ≡ none) where
+      block-list : block s ≡ listed
+      unfolding block
+      block-list = alt-none (read-heading s) (read-para s <|> listed) e ∙ alt-none (read-para s) listed f
+
+      pub block-3 : read-list 8 s ≡ none → Says block-form page at (block s) No
+      block-3 h = refuses block-form page at (block s) (block-list ∙ rw h)
+
+      pub block-4 : {n : ℕ} {a w c : Count} → Got (list-form 0) page at (read-list 8 s) n w → a ≡ alike 1 → c ≡ added a w → Says block-form page at (block s) (At n c)
+      block-4 {n} {a} {w} {c} g k m =
+          let x = g .what in
+          answers block-form page at (block s) (block-list ∙ rw (g .is)) (list-weight x (list-filled s (x, from page n) (g .is)) k (g .count) m) (g .later) (g .within)

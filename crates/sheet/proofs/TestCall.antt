@@ -1,0 +1,105 @@
+-- What the sheet test says yes to, by the grammar of document 01.
+-- Assumes nothing.
+use Prim.Native.Nat.{ℕ, _≤_, _<_}
+use native.Mathlib.Omega.{arith}
+use mathlib.Core.Path.{_≡_, refl, sym, _∙_, ap}
+use mathlib.Core.Bool.{Bool, true, _&&_}
+use mathlib.Core.Option.{Option, none, some}
+use mathlib.Core.Logic.{_↔_}
+use mathlib.Core.List.{List}
+use borrow.Author.Tests.{lt-ltb, le-leb, ltb-true, leb-true}
+use lib.Dec.{ltb, leb}
+use lib.ListN.{length}
+use Rattle.text.specs.Words.{case}
+use Rattle.text.specs.Utf8.{Scalars, size, encode, decode}
+use Rattle.text.proofs.Tests.{and-true}
+use Rattle.text.proofs.Laws.{decode-iff, decode-sound}
+use Rattle.sheet.specs.Tree.{Block}
+use Rattle.sheet.specs.Grammar.{IsPage}
+use Rattle.sheet.specs.Reader.{read-page}
+use Rattle.sheet.specs.Written.{written}
+use Rattle.sheet.specs.Sound.{bind-inv, guard-inv, page-sound}
+use Rattle.sheet.specs.Complete.{page-complete}
+use Rattle.sheet.specs.Calls.{small, sheet, Tested, no-utf8, no-sheet, yes-sheet, sheet-call}
+
+-- a page is a sheet: its characters, which are scalar values, are a page of the grammar, and the written form of its tree is small
+pub record IsSheet (page : List ℕ) (bytes chars : ℕ) : Type 0 where
+  pub text : List ℕ
+  pub tree : List Block
+  pub scalars : Scalars text
+  pub encoded : encode text ≡ page
+  pub read : IsPage text tree
+  pub sized : size (written tree) ≡ bytes
+  pub counted : length (written tree) ≡ chars
+  pub few-bytes : bytes < 16000
+  pub few-chars : chars ≤ 8000
+
+-- a text is a page of the grammar in one way at most
+pub one-tree : {s : List ℕ} {t u : List Block} → IsPage s t → IsPage s u → t ≡ u
+one-tree {s} {t} {u} p q = let e : some t ≡ some u = sym (page-complete p) ∙ page-complete q in cc
+
+-- the tree of a sheet is that of the grammar
+pub sheet-sound : (s : List ℕ) (t : List Block) → sheet s ≡ some t → IsPage s t × (small t ≡ true)
+unfolding sheet
+sheet-sound s t e =
+    let b = bind-inv (read-page s) _ e in
+    let g = guard-inv (small (b .0)) _ (b .2) in
+    let z : b .0 ≡ t = cc (g .1) in
+    (page-sound s t (b .1 ∙ ap some z), ap small (sym z) ∙ g .0)
+
+pub sheet-complete : {s : List ℕ} {t : List Block} → IsPage s t → small t ≡ true → sheet s ≡ some t
+unfolding sheet
+sheet-complete p h = rw (page-complete p, h)
+
+module _ (page : List ℕ) (b c : ℕ) where
+  forth : sheet-call page ≡ yes-sheet b c → IsSheet page b c
+  unfolding sheet-call small
+  forth e = go (decode page) refl e
+    where
+      held : (s : List ℕ) → decode page ≡ some s → (o : Option (List Block)) → sheet s ≡ o → case o no-sheet (λ t. yes-sheet (size (written t)) (length (written t))) ≡ yes-sheet b c → IsSheet page b c
+      held s d none h f = let z : _≡_ {A = ℕ} 0 1 = cc in absurd (omega arith)
+      held s d (some t) h f =
+          let p = sheet-sound s t h in
+          let u = decode-sound page s d in
+          let l = and-true (ltb (size (written t)) 16000) (leb (length (written t)) 8000) (p .1) in
+          let x : size (written t) ≡ b = cc in
+          let y : length (written t) ≡ c = cc in
+          let m = ltb-true (size (written t)) 16000 (l .0) in
+          let n = leb-true (length (written t)) 8000 (l .1) in
+          record { text = s; tree = t; scalars = u .0; encoded = u .1; read = p .0; sized = x; counted = y; few-bytes = omega arith; few-chars = omega arith }
+
+      go : (o : Option (List ℕ)) → decode page ≡ o → case o no-utf8 (λ s. case (sheet s) no-sheet (λ t. yes-sheet (size (written t)) (length (written t)))) ≡ yes-sheet b c → IsSheet page b c
+      go none d f = let z : _≡_ {A = ℕ} 0 1 = cc in absurd (omega arith)
+      go (some s) d f = held s d (sheet s) refl f
+
+  back : IsSheet page b c → sheet-call page ≡ yes-sheet b c
+  unfolding sheet-call small
+  back h =
+      let d = decode-iff page (h .text) .1 (h .scalars, h .encoded) in
+      let t = h .tree in
+      let x = h .sized in
+      let y = h .counted in
+      let m : size (written t) < 16000 = let f = h .few-bytes in omega arith in
+      let n : length (written t) ≤ 8000 = let f = h .few-chars in omega arith in
+      let k : small t ≡ true = rw (lt-ltb (size (written t)) 16000 m, le-leb (length (written t)) 8000 n) in
+      rw (d, sheet-complete (h .read) k, x, y)
+
+  -- the test says yes with these counts exactly to these pages
+  pub sheet-iff : (sheet-call page ≡ yes-sheet b c) ↔ IsSheet page b c
+  sheet-iff = (forth, back)
+
+-- it refuses exactly what encodes no scalar values
+pub refused-iff : (page : List ℕ) → (sheet-call page ≡ no-utf8) ↔ ((s : List ℕ) → Scalars s → encode s ≡ page → ⊥)
+unfolding sheet-call
+refused-iff page = (λ e s h f. none-left s (decode-iff page s .1 (h, f)) e, λ h. go h (decode page) refl)
+  where
+    none-left : (s : List ℕ) → decode page ≡ some s → case (decode page) no-utf8 (λ s. case (sheet s) no-sheet (λ t. yes-sheet (size (written t)) (length (written t)))) ≡ no-utf8 → ⊥
+    none-left s d e = held (sheet s) (sym (rw d) ∙ e)
+      where
+        held : (o : Option (List Block)) → case o no-sheet (λ t. yes-sheet (size (written t)) (length (written t))) ≡ no-utf8 → ⊥
+        held none f = let z : _≡_ {A = ℕ} 0 1 = cc in omega arith
+        held (some t) f = let z : _≡_ {A = ℕ} 0 1 = cc in omega arith
+
+    go : ((s : List ℕ) → Scalars s → encode s ≡ page → ⊥) → (o : Option (List ℕ)) → decode page ≡ o → case o no-utf8 (λ s. case (sheet s) no-sheet (λ t. yes-sheet (size (written t)) (length (written t)))) ≡ no-utf8
+    go h none d = refl
+    go h (some s) d = let u = decode-sound page s d in absurd (h s (u .0) (u .1))

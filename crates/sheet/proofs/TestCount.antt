@@ -1,0 +1,36 @@
+-- Counts of texts put together.
+-- Assumes nothing.
+use Prim.Native.Nat.{ℕ, zero, suc, _+_, _*_, _≤_, _<_, min}
+use native.Mathlib.Omega.{arith}
+use mathlib.Core.Path.{_≡_, refl, sym, _∙_, ap}
+use mathlib.Core.Bool.{Bool, true, false, _&&_}
+use mathlib.Core.List.{List, [], _∷_, _++_}
+use borrow.Author.Tests.{ltb-true}
+use lib.Dec.{ltb}
+use lib.ListN.{length, length-append}
+use Rattle.text.specs.Utf8.{size, utf8}
+use Rattle.text.proofs.Tests.{and-true}
+use Rattle.text.proofs.Laws.{size-append, utf8-ascii}
+use Rattle.sheet.specs.declared.count.Count.{Count}
+use Rattle.sheet.specs.Weight.{weight, alike, added}
+use Rattle.sheet.proofs.TestTags.{ascii}
+
+pub counts : {a b c d : ℕ} → a ≡ c → b ≡ d → _≡_ {A = Count} (record { bytes = a; chars = b }) (record { bytes = c; chars = d })
+counts e f = cc
+
+pub weight-append : (l m : List ℕ) → weight (l ++ m) ≡ added (weight l) (weight m)
+unfolding weight
+weight-append l m = counts (omega (arith, size-append l m)) (omega (arith, length-append l m))
+
+pub size-ascii : (l : List ℕ) → ascii l ≡ true → size l ≡ length l
+unfolding size
+size-ascii [] h = refl
+size-ascii (a ∷ l) h =
+    let g = and-true (ltb a 0x80) (ascii l) h in
+    let i = size-ascii l (g .1) in
+    let e = ap length (utf8-ascii a (ltb-true a 0x80 (g .0))) in
+    omega arith
+
+pub weight-ascii : (l : List ℕ) → ascii l ≡ true → weight l ≡ alike (length l)
+unfolding weight
+weight-ascii l h = counts (omega (arith, size-ascii l h)) refl

@@ -1,0 +1,132 @@
+-- Counts of the written forms.
+-- Assumes nothing.
+use Prim.Native.Nat.{ℕ, zero, suc, _+_, _-_, _*_, _/_, _%_, _≤_, _<_, min}
+use native.Mathlib.Omega.{arith}
+use mathlib.Core.Path.{_≡_, refl, sym, _∙_, ap, subst}
+use mathlib.Core.Bool.{Bool, true, false, cond, _&&_}
+use mathlib.Core.Logic.{⊎-elim}
+use mathlib.Core.List.{List, [], _∷_, _++_, append-nil, append-assoc, map}
+use borrow.Author.Tests.{lt-ltb, le-ltb, ltb-true, ltb-false}
+use lib.Dec.{ltb}
+use lib.ListN.{length, length-append}
+use Rattle.text.specs.Words.{str, repeat}
+use Rattle.text.specs.Utf8.{size}
+use Rattle.text.specs.Decimal.{digits, decimal}
+use Rattle.text.proofs.Tests.{decide, on, and-true}
+use Rattle.sheet.specs.Tree.{Run, Mark, Items, end, leaf, node, Item, alone, with, cons, items}
+use Rattle.sheet.specs.Written.{Row, item, place, rows-from, lead, written-runs, written-row}
+use Rattle.sheet.specs.Weight.{weight, alike, added}
+use Rattle.sheet.specs.Forms.{led-rows, item-form, list-form, row-lead}
+use Rattle.sheet.specs.declared.count.Count.{Count}
+use Rattle.sheet.proofs.TestTags.{ascii}
+use Rattle.sheet.proofs.TestCount.{counts, weight-append, weight-ascii}
+
+-- ---- decimal digits
+digits-enough : (k j n : ℕ) → n < k → n < j → digits k n ≡ digits j n
+unfolding digits
+digits-enough zero j n a b = absurd (omega arith)
+digits-enough (suc k) zero n a b = absurd (omega arith)
+digits-enough (suc k) (suc j) n a b = go (λ (m : ℕ) u v. digits-enough k j m u v) (ltb n 10) refl
+  where
+    go : ((m : ℕ) → m < k → m < j → digits k m ≡ digits j m) → (t : Bool) → ltb n 10 ≡ t
+        → cond t ((48 + n) ∷ []) (digits k (n / 10) ++ ((48 + n % 10) ∷ [])) ≡ cond t ((48 + n) ∷ []) (digits j (n / 10) ++ ((48 + n % 10) ∷ []))
+    go ih true e = refl
+    go ih false e = let l = ltb-false n 10 e in ap (λ (d : List ℕ). d ++ ((48 + n % 10) ∷ [])) (ih (n / 10) (omega arith) (omega arith))
+
+pub decimal-small : (n : ℕ) → n < 10 → length (decimal n) ≡ 1
+unfolding digits
+decimal-small n h = rw (lt-ltb n 10 h)
+
+pub decimal-large : (n : ℕ) → 10 ≤ n → length (decimal n) ≡ length (decimal (n / 10)) + 1
+unfolding digits
+decimal-large n h =
+    rw (le-ltb n 10 h, digits-enough n (suc (n / 10)) (n / 10) (omega arith) (omega arith)) (length-append (digits (suc (n / 10)) (n / 10)) ((48 + n % 10) ∷ []))
+
+ascii-append : (l m : List ℕ) → ascii l ≡ true → ascii m ≡ true → ascii (l ++ m) ≡ true
+ascii-append [] m a b = b
+ascii-append (x ∷ l) m a b = let g = and-true (ltb x 0x80) (ascii l) a in rw (g .0) (ascii-append l m (g .1) b)
+
+digits-ascii : (k n : ℕ) → ascii (digits k n) ≡ true
+unfolding digits
+digits-ascii zero n = refl
+digits-ascii (suc k) n = go (digits-ascii k (n / 10)) (ltb n 10) refl
+  where
+    go : ascii (digits k (n / 10)) ≡ true → (t : Bool) → ltb n 10 ≡ t → ascii (cond t ((48 + n) ∷ []) (digits k (n / 10) ++ ((48 + n % 10) ∷ []))) ≡ true
+    go ih true e = let l = ltb-true n 10 e in rw (lt-ltb (48 + n) 0x80 (omega arith))
+    go ih false e = ascii-append (digits k (n / 10)) ((48 + n % 10) ∷ []) ih (rw (lt-ltb (48 + n % 10) 0x80 (omega arith)))
+
+-- ---- what stands before an item's line
+indent-ascii : (d : ℕ) → ascii (repeat d "  ") ≡ true
+indent-ascii zero = refl
+indent-ascii (suc d) = indent-ascii d
+
+indent-length : (d : ℕ) → length (repeat d "  ") ≡ d * 2
+indent-length zero = refl
+indent-length (suc d) = let h = indent-length d in omega arith
+
+lead-ascii : (n : ℕ) → ascii (lead n) ≡ true
+lead-ascii zero = refl
+lead-ascii (suc n) = ascii-append (decimal (suc n)) (str ". ") (digits-ascii (suc (suc n)) (suc n)) refl
+
+row-lead-weight : (d n : ℕ) → weight (row-lead d n) ≡ alike (1 + (d * 2 + length (lead n)))
+row-lead-weight d n =
+    weight-ascii (row-lead d n) (ascii-append (repeat d "  ") (lead n) (indent-ascii d) (lead-ascii n))
+    ∙ ap (λ (k : ℕ). alike (suc k)) (length-append (repeat d "  ") (lead n) ∙ ap (λ (k : ℕ). k + length (lead n)) (indent-length d))
+    ∙ ap alike (omega arith)
+
+pub lead-none : (d n : ℕ) → n ≡ 0 → {r : Count} → r ≡ alike (3 + d * 2) → r ≡ weight (row-lead d n)
+lead-none d n e {r} h = h ∙ ap alike (omega arith) ∙ sym (row-lead-weight d 0) ∙ ap (λ (n : ℕ). weight (row-lead d n)) (sym e)
+
+pub lead-some : (d n : ℕ) → (n ≡ 0 → ⊥) → {k m : ℕ} {r : Count} → k ≡ length (decimal n) → m ≡ min (k + (3 + d * 2)) 20000 → r ≡ alike m → r ≡ weight (row-lead d n)
+lead-some d zero z e f h = absurd (z refl)
+lead-some d (suc n) z {k} {m} {r} e f h =
+    let l = length-append (decimal (suc n)) (str ". ") in
+    h ∙ counts (omega arith) (omega arith) ∙ sym (row-lead-weight d (suc n))
+
+-- ---- rows
+pub led-append : (xs ys : List Row) → led-rows (xs ++ ys) ≡ led-rows xs ++ led-rows ys
+unfolding led-rows
+led-append [] ys = refl
+led-append (r ∷ xs) ys = rw (led-append xs ys) (sym (append-assoc (str "\n" ++ written-row r) (led-rows xs) (led-rows ys)))
+
+-- an item more
+pub rows-snoc : (d : ℕ) (m : Mark) (n : ℕ) (xs : List Item) (x : Item)
+    → led-rows (rows-from d m n (items (xs ++ (x ∷ [])))) ≡ led-rows (rows-from d m n (items xs)) ++ item-form d (place m (length xs + n)) x
+unfolding led-rows rows-from item-form
+rows-snoc d m n [] (alone l) = let z : 0 + n ≡ n = omega arith in rw z
+rows-snoc d m n [] (with l k its) = let z : 0 + n ≡ n = omega arith in rw z (ap (λ (r : List Row). led-rows (item d (place m n) l ∷ r)) (append-nil (rows-from (suc d) k 1 its)))
+rows-snoc d m n (alone l ∷ xs) x =
+    let z : length xs + suc n ≡ suc (length xs) + n = omega arith in
+    rw (rows-snoc d m (suc n) xs x, z) (sym (append-assoc (str "\n" ++ written-row (item d (place m n) l)) (led-rows (rows-from d m (suc n) (items xs))) (item-form d (place m (suc (length xs) + n)) x)))
+rows-snoc d m n (with l k its ∷ xs) x =
+    let z : length xs + suc n ≡ suc (length xs) + n = omega arith in
+    let a = rows-from (suc d) k 1 its in
+    let b = rows-from d m (suc n) (items xs) in
+    let f = item-form d (place m (suc (length xs) + n)) x in
+    rw (led-append a (rows-from d m (suc n) (items (xs ++ (x ∷ [])))), led-append a b, rows-snoc d m (suc n) xs x, z)
+    (ap (λ (r : List ℕ). (str "\n" ++ written-row (item d (place m n) l)) ++ r) (sym (append-assoc (led-rows a) (led-rows b) f))
+    ∙ sym (append-assoc (str "\n" ++ written-row (item d (place m n) l)) (led-rows a ++ led-rows b) f))
+
+-- ---- an item's counts
+row-weight : (d n : ℕ) (l : List Run) → weight (str "\n" ++ written-row (item d n l)) ≡ added (weight (row-lead d n)) (weight (written-runs l))
+row-weight d n l = ap weight (ap (λ (r : List ℕ). str "\n" ++ r) (sym (append-assoc (repeat d "  ") (lead n) (written-runs l)))) ∙ weight-append (row-lead d n) (written-runs l)
+
+module _ (d n : ℕ) (l : List Run) {a b c : Count} (e : a ≡ weight (row-lead d n)) (f : b ≡ weight (written-runs l)) (g : c ≡ added a b) where
+  own : c ≡ weight (str "\n" ++ written-row (item d n l))
+  own = g ∙ cc (e, f) ∙ sym (row-weight d n l)
+
+  pub alone-weight : c ≡ weight (item-form d n (alone l))
+  unfolding item-form led-rows
+  alone-weight = own ∙ ap weight (sym (append-nil (str "\n" ++ written-row (item d n l))))
+
+  pub with-weight : (d' : ℕ) → d' ≡ suc d → (x : Mark × Items) {s t : Count} → s ≡ weight (list-form d' x) → t ≡ added c s → t ≡ weight (item-form d n (with l (x .0) (x .1)))
+  unfolding item-form list-form led-rows
+  with-weight d' z x {s} {t} h k =
+      k ∙ cc (own, h, ap (λ (d : ℕ). weight (led-rows (rows-from d (x .0) 1 (x .1)))) z) ∙ sym (weight-append (str "\n" ++ written-row (item d n l)) (led-rows (rows-from (suc d) (x .0) 1 (x .1))))
+
+-- ---- how many digits: what is left of the number has as many as were not counted
+pub digit-less : (n m k : ℕ) → k + length (decimal m) ≡ length (decimal n) + 1 → 10 ≤ m → k + 1 + length (decimal (m / 10)) ≡ length (decimal n) + 1
+digit-less n m k e h = omega (arith, decimal-large m h)
+
+pub digit-last : (n m k : ℕ) → k + length (decimal m) ≡ length (decimal n) + 1 → m < 10 → k ≡ length (decimal n)
+digit-last n m k e h = omega (arith, decimal-small m h)

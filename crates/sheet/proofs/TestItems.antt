@@ -1,0 +1,287 @@
+-- Items and lists: what the reader's answers are made of, and the loop over a list's items.
+-- Assumes nothing.
+use Prim.Native.Nat.{ℕ, zero, suc, _+_, _-_, _≤_, _<_, min}
+use native.Mathlib.Omega.{arith}
+use native.Mathlib.Nat.{le-refl}
+use mathlib.Core.Path.{_≡_, refl, sym, _∙_, ap, subst}
+use mathlib.Core.Bool.{Bool, true, false, _&&_}
+use mathlib.Core.Option.{Option, none, some}
+use mathlib.Core.Logic.{⊎-elim}
+use mathlib.Core.List.{List, [], _∷_, _++_}
+use lib.ListN.{length, length-append}
+use Rattle.text.specs.Words.{str, _>>=_, case}
+use Rattle.text.specs.Utf8.{size}
+use Rattle.sheet.specs.Reading.{guard, _<|>_, strip, many}
+use Rattle.sheet.specs.Tree.{Run, Mark, ul, ol, Items, end, Item, alone, with, items}
+use Rattle.sheet.specs.Grammar.{opens, closes, neat}
+use Rattle.sheet.specs.Reader.{Answer, nl?, one-run, line, then-nl, with-list, item, some-items, marked, list-of, read-list}
+use Rattle.sheet.specs.Written.{place, rows-from}
+use Rattle.sheet.specs.Weight.{weight, alike, added}
+use Rattle.sheet.specs.Says.{from, Says, Tagged, Skipped}
+use Rattle.sheet.specs.Facts.{filled}
+use Rattle.sheet.specs.Forms.{led-rows, item-form, list-form, mark-of, Begun}
+use Rattle.sheet.specs.Sound.{none-some, bind-inv, guard-inv, alt-inv}
+use Rattle.sheet.specs.declared.count.Count.{Count}
+use Rattle.sheet.specs.declared.count.Read.the-variants.{At, No}
+use Rattle.sheet.specs.declared.list.Opening.{Opening}
+use Rattle.sheet.specs.declared.list.Opening.the-variants as O
+use Rattle.sheet.proofs.TestTags.{Stands, is-tag, no-tag}
+use Rattle.sheet.proofs.TestCount.{weight-append}
+use Rattle.sheet.proofs.TestMany.{Shrinks, every, many-every, many-shrinks, strip-shrinks, nl-shrinks, then-nl-shrinks, Read-to, to-none, to-more, to-stop}
+use Rattle.sheet.proofs.TestSays.{Got, answers, refuses}
+use Rattle.sheet.proofs.TestRuns.{run-shrinks}
+use Rattle.sheet.proofs.TestForms.{rows-snoc}
+
+-- ---- what is read leaves less
+pub line-shrinks : (s : List ℕ) (y : List Run × List ℕ) → line s ≡ some y → length (y .1) ≤ length s
+unfolding line
+line-shrinks s y e =
+    let g = guard-inv (neat (every one-run s .0)) _ e in
+    let z : every one-run s ≡ y = cc (g .1) in
+    let l = many-shrinks one-run run-shrinks (length s) s in
+    omega (arith, ap (λ (y : List Run × List ℕ). length (y .1)) z)
+
+item-shrinks : (read : List ℕ → Answer (Mark × Items)) → Shrinks read → Shrinks (item read)
+unfolding item
+item-shrinks read h s y e =
+    let o = bind-inv (strip (str "<li>") s) _ e in
+    let l = bind-inv (line (o .0)) _ (o .2) in
+    let a = strip-shrinks (str "<li>") s (o .1) in
+    let b = line-shrinks (o .0) (l .0) (l .1) in
+    let c = go (l .0) (strip (str "</li>") (l .0 .1)) refl (l .2) in
+    omega arith
+  where
+    go : (x : List Run × List ℕ) (o : Option (List ℕ)) → strip (str "</li>") (x .1) ≡ o → case o (with-list read (x .0) (x .1)) (λ r. some (alone (x .0), r)) ≡ some y → length (y .1) ≤ length (x .1)
+    go x (some r) e f =
+        let z : (alone (x .0), r) ≡ y = cc in
+        let a = strip-shrinks (str "</li>") (x .1) e in
+        omega (arith, ap (λ (y : Item × List ℕ). length (y .1)) z)
+    go x none e f =
+        let b = bind-inv (read (nl? (x .1))) _ f in
+        let c = bind-inv (strip (str "</li>") (nl? (b .0 .1))) _ (b .2) in
+        let z : (with (x .0) (b .0 .0 .0) (b .0 .0 .1), c .0) ≡ y = cc (c .2) in
+        let l₁ = nl-shrinks (x .1) in
+        let l₂ = h (nl? (x .1)) (b .0) (b .1) in
+        let l₃ = nl-shrinks (b .0 .1) in
+        let l₄ = strip-shrinks (str "</li>") (nl? (b .0 .1)) (c .1) in
+        omega (arith, ap (λ (y : Item × List ℕ). length (y .1)) z)
+
+marked-shrinks : (s : List ℕ) (y : Mark × List ℕ) → (marked ul s <|> marked ol s) ≡ some y → length (y .1) < length s
+marked-shrinks s y e = ⊎-elim (by ul (omega arith)) (by ol (omega arith)) (alt-inv (marked ul s) _ e)
+  where
+    by : (m : Mark) → 0 < length (opens m) → marked m s ≡ some y → length (y .1) < length s
+    by m p e =
+        let b = bind-inv (strip (opens m) s) _ e in
+        let z : (m, b .0) ≡ y = cc (b .2) in
+        let l = strip-shrinks (opens m) s (b .1) in
+        omega (arith, ap (λ (y : Mark × List ℕ). length (y .1)) z)
+
+list-shrinks : (read : List ℕ → Answer Item) → Shrinks read → Shrinks (list-of read)
+unfolding list-of
+list-shrinks read h s y e =
+    let m = bind-inv (marked ul s <|> marked ol s) _ e in
+    let x = many (then-nl read) (length s) (nl? (m .0 .1)) in
+    let i = bind-inv (some-items (x .0)) _ (m .2) in
+    let c = bind-inv (strip (closes (m .0 .0)) (x .1)) _ (i .2) in
+    let z : ((m .0 .0, i .0), c .0) ≡ y = cc (c .2) in
+    let l₁ = marked-shrinks s (m .0) (m .1) in
+    let l₂ = nl-shrinks (m .0 .1) in
+    let l₃ = many-shrinks (then-nl read) (then-nl-shrinks read h) (length s) (nl? (m .0 .1)) in
+    let l₄ = strip-shrinks (closes (m .0 .0)) (x .1) (c .1) in
+    omega (arith, ap (λ (y : (Mark × Items) × List ℕ). length (y .1)) z)
+
+pub read-list-shrinks : (d : ℕ) → Shrinks (read-list d)
+unfolding read-list
+read-list-shrinks zero s y e = none-some e
+read-list-shrinks (suc d) s y e = list-shrinks (item (read-list d)) (item-shrinks (read-list d) (read-list-shrinks d)) s y e
+
+items-shrink : (d : ℕ) → Shrinks (then-nl (item (read-list d)))
+items-shrink d = then-nl-shrinks (item (read-list d)) (item-shrinks (read-list d) (read-list-shrinks d))
+
+-- ---- an item
+module _ (read : List ℕ → Answer (Mark × Items)) (s : List ℕ) where
+  pub item-1 : strip (str "<li>") s ≡ none → item read s ≡ none
+  unfolding item
+  item-1 e = rw e
+
+  module _ (s₁ : List ℕ) (e : strip (str "<li>") s ≡ some s₁) where
+    pub item-2 : line s₁ ≡ none → item read s ≡ none
+    unfolding item
+    item-2 f = rw (e, f)
+
+    module _ (l : List Run) (s₂ : List ℕ) (f : line s₁ ≡ some (l, s₂)) where
+      pub item-3 : {r : List ℕ} → strip (str "</li>") s₂ ≡ some r → item read s ≡ some (alone l, r)
+      unfolding item
+      item-3 g = rw (e, f, g)
+
+      module _ (g : strip (str "</li>") s₂ ≡ none) (s₃ : List ℕ) (h : nl? s₂ ≡ s₃) where
+        pub item-4 : read s₃ ≡ none → item read s ≡ none
+        unfolding item
+        item-4 i = rw (e, f, g, h, i)
+
+        module _ (x : Mark × Items) (s₄ s₅ : List ℕ) (i : read s₃ ≡ some (x, s₄)) (j : nl? s₄ ≡ s₅) where
+          pub item-5 : {r : List ℕ} → strip (str "</li>") s₅ ≡ some r → item read s ≡ some (with l (x .0) (x .1), r)
+          unfolding item
+          item-5 k = rw (e, f, g, h, i, j, k)
+
+          pub item-6 : strip (str "</li>") s₅ ≡ none → item read s ≡ none
+          unfolding item
+          item-6 k = rw (e, f, g, h, i, j, k)
+
+-- ---- the opening tag of a list
+pub record Began (page : List ℕ) (at : ℕ) (b : Bool) : Type 0 where
+  pub is : (marked ul (from page at) <|> marked ol (from page at)) ≡ some (mark-of b, from page (at + 4))
+  pub within : at + 4 ≤ length page
+
+module _ (page : List ℕ) (at : ℕ) where
+  abbrev begin : Answer Mark
+  begin = marked ul (from page at) <|> marked ol (from page at)
+
+  begins : (b : Bool) → begin ≡ some (mark-of b, from page (at + 4)) → at + 4 ≤ length page → Begun page at begin (O.List b)
+  begins b e w = subst (λ (o : Answer Mark). Begun page at o (O.List b)) (sym e) (b, refl, refl, w)
+
+  pub begin-1 : Stands (str "<ul>") page at → Begun page at begin (O.List false)
+  begin-1 t = begins false (rw (t .off)) (t .inside (omega arith))
+
+  module _ (e : strip (str "<ul>") (from page at) ≡ none) where
+    pub begin-2 : Stands (str "<ol>") page at → Begun page at begin (O.List true)
+    begin-2 t = begins true (rw (e, t .off)) (t .inside (omega arith))
+
+    pub begin-3 : strip (str "<ol>") (from page at) ≡ none → Begun page at begin O.No
+    begin-3 f = let z : begin ≡ none = rw (e, f) in subst (λ (o : Answer Mark). Begun page at o O.No) (sym z) refl
+
+  no-begin : (o : Answer Mark) {r : Opening} → Begun page at o r → r ≡ O.No → o ≡ none
+  no-begin none h e = refl
+  no-begin (some x) h e = let q = h .1 in let z : _≡_ {A = ℕ} 0 1 = cc in absurd (omega arith)
+
+  pub begun-no : {r : Opening} → Begun page at begin r → r ≡ O.No → begin ≡ none
+  begun-no h e = no-begin begin h e
+
+  pub begun-at : {r : Opening} {b : Bool} → Begun page at begin r → r ≡ O.List b → Began page at b
+  begun-at {r} {b} h e = go begin refl h
+    where
+      go : (o : Answer Mark) → begin ≡ o → Begun page at o r → Began page at b
+      go none f h = let z : _≡_ {A = ℕ} 0 1 = cc in absurd (omega arith)
+      go (some x) f h =
+          let q = h .1 in
+          let w : h .0 ≡ b = cc in
+          record { is = f ∙ ap some (h .2) ∙ ap (λ (b : Bool). some (mark-of b, from page (at + 4))) w; within = h .3 }
+
+-- ---- the loop over the items
+pub record Items-to (v d : ℕ) (m : Mark) (page : List ℕ) (start pos n : ℕ) (w : Count) : Type 0 where
+  pub read : List Item
+  pub to : Read-to (then-nl (item (read-list v))) (from page start) read (from page pos)
+  pub kept : w ≡ weight (led-rows (rows-from d m 1 (items read)))
+  pub many : n ≡ length read
+  pub later : start + n ≤ pos
+  pub within : pos ≤ length page
+
+module _ (v d : ℕ) (m : Mark) (page : List ℕ) (start : ℕ) where
+  pub items-none : {w : Count} → w ≡ alike 0 → start ≤ length page → Items-to v d m page start start 0 w
+  unfolding weight size led-rows rows-from
+  items-none {w} e h = record { read = []; to = to-none (then-nl (item (read-list v))) (from page start); kept = e; many = refl; later = omega arith; within = h }
+
+  pub items-next : {pos n : ℕ} {w : Count} → Items-to v d m page start pos n w → {p next : ℕ} {a b : Count} {pos' : ℕ} → p ≡ place m (n + 1)
+      → Got (item-form d p) page pos (item (read-list v) (from page pos)) next a → Skipped page next pos' → b ≡ added w a → Items-to v d m page start pos' (n + 1) b
+  items-next {pos} {n} {w} s {p} {next} {a} {b} {pos'} e g k f =
+      let x = g .what in
+      let xs = s .read in
+      let q : p ≡ place m (length xs + 1) = e ∙ ap (λ (n : ℕ). place m (n + 1)) (s .many) in
+      let c : b ≡ added (weight (led-rows (rows-from d m 1 (items xs)))) (weight (item-form d (place m (length xs + 1)) x)) =
+      f ∙ cc (s .kept, g .count, ap (λ (p : ℕ). weight (item-form d p x)) q) in
+      let l₁ = s .later in
+      let l₂ = g .later in
+      let l₃ = k .later in
+      let l₄ = s .many in
+      record {
+        read = xs ++ (x ∷ []);
+        to = to-more (then-nl (item (read-list v))) (items-shrink v) (s .to) (rw (g .is, k .rest));
+        kept = c ∙ sym (weight-append (led-rows (rows-from d m 1 (items xs))) (item-form d (place m (length xs + 1)) x)) ∙ ap weight (sym (rows-snoc d m 1 xs x));
+        many = omega (arith, length-append xs (x ∷ []));
+        later = omega arith;
+        within = k .within (g .within);
+      }
+
+  pub items-end : {pos n : ℕ} {w : Count} (s : Items-to v d m page start pos n w) → item (read-list v) (from page pos) ≡ none → every (then-nl (item (read-list v))) (from page start) ≡ (s .read, from page pos)
+  items-end s e = to-stop (then-nl (item (read-list v))) (s .to) (rw e)
+
+-- ---- a list
+pub list-0 : (d : ℕ) (s : List ℕ) → d ≡ 0 → read-list d s ≡ none
+unfolding read-list
+list-0 d s e = rw e
+
+list-1 : (d : ℕ) (s : List ℕ) → 1 ≤ d → read-list d s ≡ list-of (item (read-list (d - 1))) s
+unfolding read-list
+list-1 zero s h = absurd (omega arith)
+list-1 (suc d) s h = let z : d ≡ suc d - 1 = omega arith in ap (λ (d : ℕ). list-of (item (read-list d)) s) z
+
+pub list-2 : (d : ℕ) (s : List ℕ) → 1 ≤ d → (marked ul s <|> marked ol s) ≡ none → read-list d s ≡ none
+unfolding list-of
+list-2 d s h e = list-1 d s h ∙ rw e
+
+closes-five : (b : Bool) → length (closes (mark-of b)) ≡ 5
+closes-five true = refl
+closes-five false = refl
+
+module _ (d : ℕ) (s : List ℕ) (h : 1 ≤ d) (m : Mark) (s₁ : List ℕ) (e : (marked ul s <|> marked ol s) ≡ some (m, s₁)) (s₂ : List ℕ) (f : nl? s₁ ≡ s₂) (xs : List Item) (s₃ : List ℕ) (g : every (then-nl (item (read-list (d - 1)))) s₂ ≡ (xs, s₃)) where
+  list-end : Answer (Mark × Items)
+  list-end = some-items xs >>= λ its. strip (closes m) s₃ >>= λ r. some ((m, its), r)
+
+  list-is : read-list d s ≡ list-end
+  unfolding list-of list-end
+  list-is =
+      let l₁ = marked-shrinks s (m, s₁) e in
+      let l₂ = nl-shrinks s₁ in
+      let l₃ = ap length f in
+      list-1 d s h ∙ rw (e, f, many-every (then-nl (item (read-list (d - 1)))) (items-shrink (d - 1)) (length s) s₂ (omega arith), g)
+
+  empty : length xs ≡ 0 → read-list d s ≡ none
+  unfolding list-end
+  empty q = list-is ∙ go xs q
+    where
+      go : (xs : List Item) → length xs ≡ 0 → _>>=_ {B = (Mark × Items) × List ℕ} (some-items xs) (λ its. strip (closes m) s₃ >>= λ r. some ((m, its), r)) ≡ none
+      go [] q = refl
+      go (x ∷ xs) q = absurd (omega arith)
+
+  not-closed : strip (closes m) s₃ ≡ none → read-list d s ≡ none
+  unfolding list-end
+  not-closed q = list-is ∙ go xs
+    where
+      go : (xs : List Item) → _>>=_ {B = (Mark × Items) × List ℕ} (some-items xs) (λ its. strip (closes m) s₃ >>= λ r. some ((m, its), r)) ≡ none
+      go [] = refl
+      go (x ∷ xs) = rw q
+
+  closed : {r : List ℕ} → (length xs ≡ 0 → ⊥) → strip (closes m) s₃ ≡ some r → read-list d s ≡ some ((m, items xs), r)
+  unfolding list-end
+  closed {r} n q = list-is ∙ go xs n
+    where
+      go : (xs : List Item) → (length xs ≡ 0 → ⊥) → _>>=_ {B = (Mark × Items) × List ℕ} (some-items xs) (λ its. strip (closes m) s₃ >>= λ r. some ((m, its), r)) ≡ some ((m, items xs), r)
+      go [] n = absurd (n refl)
+      go (x ∷ xs) n = rw q
+
+module _ (page : List ℕ) (at d : ℕ) (h : 1 ≤ d) (b : Bool) (o : Began page at b) (start : ℕ) (k : Skipped page (at + 4) start) {v pos n : ℕ} {w : Count} (s : Items-to (d - 1) v (mark-of b) page start pos n w) (e : item (read-list (d - 1)) (from page pos) ≡ none) where
+  all-items : every (then-nl (item (read-list (d - 1)))) (from page start) ≡ (s .read, from page pos)
+  all-items = items-end (d - 1) v (mark-of b) page start s e
+
+  pub list-3 : n ≡ 0 → read-list d (from page at) ≡ none
+  list-3 z = empty d (from page at) h (mark-of b) _ (o .is) _ (k .rest) (s .read) _ all-items (omega (arith, s .many))
+
+  pub list-4 : strip (closes (mark-of b)) (from page pos) ≡ none → read-list d (from page at) ≡ none
+  list-4 q = not-closed d (from page at) h (mark-of b) _ (o .is) _ (k .rest) (s .read) _ all-items q
+
+  pub list-5 : v ≡ 8 - d → (n ≡ 0 → ⊥) → {r : Bool} → Tagged (closes (mark-of b)) page pos r → r ≡ true → Says (list-form (8 - d)) page at (read-list d (from page at)) (At (pos + 5) w)
+  unfolding list-form
+  list-5 z q t y =
+      let c = is-tag (closes (mark-of b)) page pos t y in
+      let five = closes-five b in
+      let i = c .1 (s .within) in
+      let p : strip (closes (mark-of b)) (from page pos) ≡ some (from page (pos + 5)) = c .0 ∙ ap (λ (n : ℕ). some (from page (pos + n))) five in
+      let l₁ = s .later in
+      let l₂ = k .later in
+      answers (list-form (8 - d)) page at (read-list d (from page at))
+      (closed d (from page at) h (mark-of b) _ (o .is) _ (k .rest) (s .read) _ all-items (λ u. q (s .many ∙ u)) p)
+      (s .kept ∙ ap (λ (v : ℕ). weight (led-rows (rows-from v (mark-of b) 1 (items (s .read))))) z)
+      (omega arith) (omega arith)
+
+  pub list-bound : {r : Bool} → Tagged (closes (mark-of b)) page pos r → r ≡ true → pos + 5 ≤ length page
+  list-bound t y = omega (arith, is-tag (closes (mark-of b)) page pos t y .1 (s .within), closes-five b)

@@ -1,0 +1,152 @@
+-- The characters of a text, one by one, and what the code keeps of them.
+-- Assumes nothing.
+use Prim.Native.Nat.{ℕ, zero, suc, _+_, _-_, _≤_, _<_, min}
+use native.Mathlib.Omega.{arith}
+use mathlib.Core.Path.{_≡_, refl, sym, _∙_, ap, subst}
+use mathlib.Core.Bool.{Bool, true, false, not, _&&_}
+use mathlib.Core.Option.{Option, none, some}
+use mathlib.Core.Logic.{⊎-elim}
+use mathlib.Core.List.{List, [], _∷_, _++_, append-nil, append-assoc}
+use lib.ListN.{length, drop}
+use Rattle.text.specs.Words.{str, _>>=_}
+use Rattle.text.specs.Utf8.{utf8, code-at}
+use Rattle.text.proofs.Laws.{turn-is, advance-end}
+use Rattle.sheet.specs.Reading.{guard, _<|>_, strip}
+use Rattle.sheet.specs.Grammar.{shown, concat}
+use Rattle.sheet.specs.Reader.{Answer, own, means, char, text}
+use Rattle.sheet.specs.Says.{from, Past}
+use Rattle.sheet.specs.Facts.{Spelt}
+use Rattle.sheet.specs.Sound.{none-some, bind-inv, guard-inv, alt-inv}
+use Rattle.sheet.specs.declared.line.Glyph.{Glyph}
+use Rattle.sheet.specs.declared.line.Glyph.the-variants as G
+use Rattle.sheet.proofs.TestMany.{Shrinks, every, every-more, every-stop, strip-shrinks}
+
+-- ---- the character at an offset
+module _ (page : List ℕ) (at : ℕ) where
+  pub spells : (o : Answer (List ℕ)) (c next : ℕ) → o ≡ some (c ∷ [], from page next) → at < next → next ≤ length page → Spelt page at o (G.At c next)
+  spells o c next e l w = subst (λ (o : Answer (List ℕ)). Spelt page at o (G.At c next)) (sym e) (c, next, refl, refl, record { starts = refl; later = l; within = w })
+
+  pub unspelt : (o : Answer (List ℕ)) → o ≡ none → Spelt page at o G.No
+  unspelt o e = subst (λ (o : Answer (List ℕ)). Spelt page at o G.No) (sym e) refl
+
+  pub char-end : length page ≤ at → char (from page at) ≡ none
+  unfolding char own
+  char-end h = rw (advance-end page at h)
+
+  pub char-own : at < length page → shown (code-at page at) ≡ true → char (from page at) ≡ some (code-at page at ∷ [], from page (at + length (utf8 (code-at page at))))
+  unfolding char own
+  char-own l h = rw (turn-is page at l .rest, h)
+
+  pub not-own : at < length page → shown (code-at page at) ≡ false → own (from page at) ≡ none
+  unfolding own
+  not-own l h = rw (turn-is page at l .rest, h)
+
+-- each reference after those before it
+module _ (s : List ℕ) (e₁ : own s ≡ none) where
+  pub char-1 : {r : List ℕ} → strip (str " ") s ≡ some r → char s ≡ some (str " ", r)
+  unfolding char
+  char-1 f = rw (e₁, f)
+
+  module _ (e₂ : strip (str " ") s ≡ none) where
+    pub char-2 : {r : List ℕ} → strip (str "&lt;") s ≡ some r → char s ≡ some (str "<", r)
+    unfolding char
+    char-2 f = rw (e₁, e₂, f)
+
+    module _ (e₃ : strip (str "&lt;") s ≡ none) where
+      pub char-3 : {r : List ℕ} → strip (str "&amp;") s ≡ some r → char s ≡ some (str "&", r)
+      unfolding char
+      char-3 f = rw (e₁, e₂, e₃, f)
+
+      module _ (e₄ : strip (str "&amp;") s ≡ none) where
+        pub char-4 : {r : List ℕ} → strip (str "&gt;") s ≡ some r → char s ≡ some (str ">", r)
+        unfolding char
+        char-4 f = rw (e₁, e₂, e₃, e₄, f)
+
+        module _ (e₅ : strip (str "&gt;") s ≡ none) where
+          pub char-5 : {r : List ℕ} → strip (str "&quot;") s ≡ some r → char s ≡ some (str "\"", r)
+          unfolding char
+          char-5 f = rw (e₁, e₂, e₃, e₄, e₅, f)
+
+          pub char-6 : strip (str "&quot;") s ≡ none → char s ≡ none
+          unfolding char
+          char-6 f = rw (e₁, e₂, e₃, e₄, e₅, f)
+
+-- ---- the text
+
+own-shrinks : Shrinks own
+unfolding own
+own-shrinks [] y e = none-some e
+own-shrinks (c ∷ s) y e =
+    let g = guard-inv (shown c) _ e in
+    let z : (c ∷ [], s) ≡ y = cc (g .1) in
+    omega (arith, ap (λ (y : List ℕ × List ℕ). length (y .1)) z)
+
+pub char-shrinks : Shrinks char
+unfolding char
+char-shrinks s y e =
+    ⊎-elim (own-shrinks s y) (λ e. ⊎-elim (by " " " " (omega arith)) (λ e. ⊎-elim (by "<" "&lt;" (omega arith)) (λ e. ⊎-elim (by "&" "&amp;" (omega arith)) (λ e. ⊎-elim (by ">" "&gt;" (omega arith)) (by "\"" "&quot;" (omega arith)) (alt-inv (means ">" "&gt;" s) _ e)) (alt-inv (means "&" "&amp;" s) _ e)) (alt-inv (means "<" "&lt;" s) _ e)) (alt-inv (means " " " " s) _ e)) (alt-inv (own s) _ e)
+  where
+    by : (q p : Prim.Native.String.String) → 0 < length (str p) → means q p s ≡ some y → length (y .1) < length s
+    by q p h e =
+        let b = bind-inv (strip (str p) s) _ e in
+        let z : (str q, b .0) ≡ y = cc (b .2) in
+        let l = strip-shrinks (str p) s (b .1) in
+        omega (arith, ap (λ (y : List ℕ × List ℕ). length (y .1)) z)
+
+pub text-more : (s : List ℕ) {q m : List ℕ} → char s ≡ some (q, m) → text s ≡ (q ++ text m .0, text m .1)
+unfolding text
+text-more s e = rw (every-more char char-shrinks s e)
+
+pub text-stop : (s : List ℕ) → char s ≡ none → text s ≡ ([], s)
+unfolding text
+text-stop s e = rw (every-stop char s e)
+
+-- the text t was read of s up to m
+pub record Text-to (s t m : List ℕ) : Type 0 where
+  pub so-far : text s ≡ (t ++ text m .0, text m .1)
+
+pub text-none : (s : List ℕ) → Text-to s [] s
+text-none s = record { so-far = refl }
+
+pub text-next : {s t m r : List ℕ} (c : ℕ) → Text-to s t m → char m ≡ some (c ∷ [], r) → Text-to s (t ++ (c ∷ [])) r
+text-next {s} {t} {m} {r} c h e =
+    record {
+      so-far =
+          h .so-far
+          ∙ ap (λ (y : List ℕ × List ℕ). (t ++ y .0, y .1)) (text-more m e)
+          ∙ ap (λ (l : List ℕ). (l, text r .1)) (sym (append-assoc t (c ∷ []) (text r .0)));
+    }
+
+pub text-ends : {s t m : List ℕ} → Text-to s t m → char m ≡ none → text s ≡ (t, m)
+text-ends {s} {t} {m} h e =
+    h .so-far
+    ∙ ap (λ (y : List ℕ × List ℕ). (t ++ y .0, y .1)) (text-stop m e)
+    ∙ ap (λ (l : List ℕ). (l, m)) (append-nil t)
+
+-- ---- from an answer of the code to the reader's
+pub record Glyph-is (page : List ℕ) (at c next : ℕ) : Type 0 where
+  pub is : char (from page at) ≡ some (c ∷ [], from page next)
+  pub later : at < next
+  pub within : next ≤ length page
+
+module _ (page : List ℕ) (at : ℕ) where
+  no-glyph : (o : Answer (List ℕ)) {r : Glyph} → Spelt page at o r → r ≡ G.No → o ≡ none
+  no-glyph none h e = refl
+  no-glyph (some x) h e = let q = h .2 in let z : _≡_ {A = ℕ} 0 1 = cc in absurd (omega arith)
+
+  pub glyph-no : {r : Glyph} → Spelt page at (char (from page at)) r → r ≡ G.No → char (from page at) ≡ none
+  glyph-no h e = no-glyph (char (from page at)) h e
+
+  pub glyph-at : {r : Glyph} {c n : ℕ} → Spelt page at (char (from page at)) r → r ≡ G.At c n → Glyph-is page at c n
+  glyph-at {r} {c} {n} h e = go (char (from page at)) refl h
+    where
+      go : (o : Answer (List ℕ)) → char (from page at) ≡ o → Spelt page at o r → Glyph-is page at c n
+      go none f h = let z : _≡_ {A = ℕ} 0 1 = cc in absurd (omega arith)
+      go (some x) f h =
+          let q = h .2 in
+          let z : h .0 ≡ c = cc in
+          let w : h .1 ≡ n = cc in
+          let p = h .4 in
+          let u : x .0 ≡ c ∷ [] = h .3 ∙ ap (λ (c : ℕ). c ∷ []) z in
+          let v : x .1 ≡ from page n = sym (p .starts) ∙ ap (from page) w in
+          record { is = f ∙ ap (λ (q : List ℕ). some (q, x .1)) u ∙ ap (λ (r : List ℕ). some (c ∷ [], r)) v; later = omega (arith, p .later); within = omega (arith, p .within) }

@@ -1,0 +1,21 @@
+-- `sheet::line::is_letter` meets its contract.
+-- Assumes nothing.
+use mathlib.Core.Path.{refl}
+use borrow.Author.Needs.{needs}
+use Rattle.sheet.proofs.line.is_letter.Statement.{statement}
+use Rattle.sheet.proofs.line.is_letter.Tie as tie
+use Rattle.sheet.proofs.line.is_letter.Reads as reads
+use Rattle.sheet.proofs.line.is_letter.Lts as lts
+use Rattle.text.proofs.within.Reads as within-reads
+
+within-requires : tie.Need-within-requires
+within-requires c κs = search needs
+
+within-requires-2 : tie.Need-within-requires-2
+within-requires-2 c κs = search needs
+
+returns : tie.Need-returns
+returns c = rw (c .before .within .ensures, c .within2 .ensures)
+
+pub is-letter-spec : {M : Type 1} → statement M
+is-letter-spec = tie.close (tie.spec within-requires within-requires-2 returns)

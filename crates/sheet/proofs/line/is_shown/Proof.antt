@@ -1,0 +1,23 @@
+-- `sheet::line::is_shown` meets its contract.
+-- Assumes nothing.
+use Rattle.sheet.specs.Grammar.{shown}
+use borrow.Author.Needs.{needs}
+use Rattle.sheet.proofs.line.is_shown.Statement.{statement}
+use Rattle.sheet.proofs.line.is_shown.Tie as tie
+use Rattle.sheet.proofs.line.is_shown.Reads as reads
+use Rattle.sheet.proofs.line.is_shown.Lts as lts
+use Rattle.text.proofs.is_control.Reads as is-control-reads
+use Rattle.text.proofs.is_space.Reads as is-space-reads
+
+is-control-requires : tie.Need-is-control-requires
+is-control-requires c κs = search needs
+
+is-space-requires : tie.Need-is-space-requires
+is-space-requires c κs = search needs
+
+returns : tie.Need-returns
+unfolding shown
+returns c = rw (c .before .is-control .ensures, c .is-space .ensures)
+
+pub is-shown-spec : {M : Type 1} → statement M
+is-shown-spec = tie.close (tie.spec is-control-requires is-space-requires returns)
