@@ -42,3 +42,4 @@ mod TestItems
 mod TestBlocks
 mod TestPage
 pub mod TestCall
+pub mod Specimens
