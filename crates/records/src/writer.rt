@@ -59,14 +59,11 @@ pub fn put_u32(out: &mut [u8], at: usize, n: usize)
 pub fn put_head(out: &mut [u8], at: usize, map: u8, n: usize)
     ensures { λ _. ⌜ now (out .exit) ≡ sets (now (out .entry)) at (map ∷ le32 n) ⌝ }
 {
-    let bytes: [u8; 5] = [
-        map,
-        (n % 256) as u8,
-        (n / 256 % 256) as u8,
-        (n / 65536 % 256) as u8,
-        (n / 16777216 % 256) as u8,
-    ];
-    put_bytes(out, at, &bytes);
+    if out.len() <= at {
+        return;
+    }
+    put(out, at, map);
+    put_u32(out, at + 1, n);
 }
 
 // A bit's value v in a map byte.
