@@ -1,11 +1,11 @@
 -- Searches: what one step of a search keeps, what an earlier search of the same line is worth, and a link's two searches with the test between.
 -- Assumes nothing.
-use mathlib.Core.Path.{_≡_, refl, sym, ap, ap₂, _∙_}
-use mathlib.Core.Logic.{_⊎_, inl, inr, ⊎-elim}
-use Prim.Native.Nat.{ℕ, zero, suc, _+_, _-_, _≤_, _<_}
+use mathlib.Core.Path.{_≡_, refl, ap, ap₂, _∙_}
+use mathlib.Core.Logic.{_⊎_, ⊎-elim}
+use Prim.Native.Nat.{ℕ, suc, _+_, _-_, _≤_, _<_}
 use native.Mathlib.Omega.{arith}
 use native.Mathlib.Numerals.{add-one}
-use mathlib.Core.Bool.{Bool, true, false, cond, _&&_}
+use mathlib.Core.Bool.{Bool, true, false, _&&_}
 use mathlib.Core.Option.{Option, none, some}
 use mathlib.Core.List.{List, [], _∷_}
 use lib.ListN.{length, drop, getD, set, length-drop, length-set, drop-of-length-le, List·getD-eq-default}
@@ -14,12 +14,10 @@ use lib.Dec.{ltb, eqb}
 use borrow.Author.Tests.{lt-ltb, le-ltb, eq-eqb, ne-eqb, ltb-true, ltb-false}
 use Rattle.text.specs.Words.{if_then_else_, _>>=_, ensure, index, find, starts}
 use Rattle.text.specs.Find.{found}
-use Rattle.text.specs.declared.Found.{Found}
 use Rattle.text.specs.declared.Found.the-variants.{Here, Nowhere}
 use Rattle.text.proofs.Tests.{decide, on}
 use Rattle.spans.specs.Spans.{link}
 use Rattle.spans.specs.State.{next-at, placed, link-at, Clear, Known, resumed}
-use Rattle.spans.specs.declared.Link.{Link}
 use Rattle.spans.specs.declared.Link.the-variants.{Ends, Nothing}
 
 -- ---- one step of a search

@@ -1,9 +1,9 @@
 // The spans of a line: bold, italic, code, links and images, read from the line's bytes and written as records.
 ghost use mathlib.Core.Path.{_≡_};
-ghost use mathlib.Core.List.{List, _∷_};
-ghost use Prim.Native.Nat.{ℕ, _+_, _*_, _^_, _-_, _≤_, _<_};
+ghost use mathlib.Core.List.{_∷_};
+ghost use Prim.Native.Nat.{_+_, _*_, _^_, _-_, _≤_, _<_};
 ghost use mathlib.Core.Bool.{Bool, true, false, _||_};
-ghost use lib.ListN.{length, drop, set, getD};
+ghost use lib.ListN.{length, set, getD};
 ghost use lib.Seq.{sets};
 ghost use lib.Dec.{eqb};
 ghost use Rattle.records.specs.Format.{le32, bit, encode-spans};
@@ -36,7 +36,9 @@ fn resume(low: usize, high: usize, from: usize) -> usize
     high
 }
 
-// Notes that the mark with the place k in `seen` does not stand from `low` on below `high`.
+// What the searches of one line have seen: for `]`, `)` and the backtick, at places 0, 2 and 4, a range in which that mark does not stand.
+// A search starts after its range and notes the new one, so that no byte is searched twice for the same mark.
+// Notes that the mark at place k does not stand from `low` on below `high`.
 fn note(seen: &mut [usize; 6], k: usize, low: usize, high: usize)
     requires { ⌜ k < 5 ⌝ }
     ensures { λ _. ⌜ now (seen .exit) ≡ set (set (now (seen .entry)) k low) (k + 1) high ⌝ }
@@ -53,7 +55,7 @@ fn ends_code(s: &[u8], i: usize) -> bool
     s[i] == b'`'
 }
 
-// The next backtick at or after `from`. A search notes in `seen` the range that it read, and no later one reads it again.
+// The next backtick at or after `from`.
 fn find(s: &[u8], from: usize, seen: &mut [usize; 6]) -> Found
     requires { ⌜ Known (now s) (now seen) ⌝ }
     ensures { λ r. ⌜ (r ≡ next-at 96 (now (s .entry)) from) × Known (now (s .entry)) (now (seen .exit)) ⌝ }
@@ -73,8 +75,7 @@ fn find(s: &[u8], from: usize, seen: &mut [usize; 6]) -> Found
     Found::Here(at)
 }
 
-// The link whose label starts at `from`, left at the first bracket that is missing; 40 is `(`. The searches for `]` and `)` note what
-// they read.
+// The link whose label starts at `from`: the search is left at the first bracket that is missing. 40 is `(`.
 fn find_link(s: &[u8], from: usize, seen: &mut [usize; 6]) -> Link
     requires { ⌜ Known (now s) (now seen) ⌝ }
     ensures { λ r. ⌜ (r ≡ link-at (now (s .entry)) from) × Known (now (s .entry)) (now (seen .exit)) ⌝ }

@@ -1,20 +1,15 @@
 -- `find`: the search for a backtick starts after what is known of the line, and notes what it read.
 -- Assumes nothing.
 use borrow.Author.Needs.{needs}
-use mathlib.Core.Path.{_≡_, refl, sym, ap, _∙_}
-use Prim.Native.Nat.{ℕ, _+_, _-_, _<_, _≤_}
+use mathlib.Core.Path.{sym, _∙_}
+use Prim.Native.Nat.{_-_}
 use native.Mathlib.Omega.{arith}
-use lib.ListN.{length, getD, set}
+use lib.ListN.{length}
 use Rattle.spans.specs.State.{Clear, Known}
 use borrow.Author.Tests.{eqb-true, eqb-false}
 use Rattle.spans.proofs.Search.{clear-resumed, clear-step, clear-next, next-end, next-here, note-tick}
 use Rattle.spans.proofs.find.Statement.{statement}
 use Rattle.spans.proofs.find.Tie as tie
-use Rattle.spans.proofs.find.Reads as reads
-use Rattle.spans.proofs.find.Lts as lts
-use Rattle.spans.proofs.ends_code.Reads as ends-code-reads
-use Rattle.spans.proofs.note.Reads as note-reads
-use Rattle.spans.proofs.resume.Reads as resume-reads
 
 abbrev Inv-tick : tie.InvT-tick
 Inv-tick s from seen₀ i₀ seen i = Clear 96 s from i × Known s seen

@@ -1,19 +1,14 @@
 -- `find_link`: two searches that start after what is known of the line, and a test between them. The outer loop and the one for `(` make one turn.
 -- Assumes nothing.
 use borrow.Author.Needs.{needs}
-use mathlib.Core.Path.{_≡_, refl, sym, ap, _∙_}
-use Prim.Native.Nat.{ℕ, _+_, _-_, _<_, _≤_}
+use mathlib.Core.Path.{sym, _∙_}
+use Prim.Native.Nat.{_-_}
 use native.Mathlib.Omega.{arith}
-use lib.ListN.{length, getD, set}
+use lib.ListN.{length}
 use Rattle.spans.specs.State.{Clear, Known}
 use Rattle.spans.proofs.Search.{clear-resumed, clear-step, note-close, note-end, no-close, no-paren, no-end, closed}
 use Rattle.spans.proofs.find_link.Statement.{statement}
 use Rattle.spans.proofs.find_link.Tie as tie
-use Rattle.spans.proofs.find_link.Reads as reads
-use Rattle.spans.proofs.find_link.Lts as lts
-use Rattle.spans.proofs.note.Reads as note-reads
-use Rattle.spans.proofs.resume.Reads as resume-reads
-use Rattle.text.proofs.byte.Reads as byte-reads
 
 abbrev Inv-close : tie.InvT-close
 Inv-close s from seen₀ i₀ seen i = Clear 93 s from i × Known s seen
