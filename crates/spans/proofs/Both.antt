@@ -1,19 +1,18 @@
 -- What is searched for in bytes and in their characters: a mark is ASCII, so it is found in both or in neither, and what stands before and
 -- after it in the bytes are the bytes of what stands there in the characters.
 -- Assumes nothing.
-use mathlib.Core.Path.{_≡_, refl, sym, ap, ap₂, _∙_, subst}
+use mathlib.Core.Path.{_≡_, refl, sym, ap, _∙_}
 use mathlib.Core.Logic.{_⊎_, inl, inr, ⊎-elim}
-use Prim.Native.Nat.{ℕ, zero, suc, _+_, _≤_, _<_}
+use Prim.Native.Nat.{ℕ, _+_, _<_}
 use native.Mathlib.Omega.{arith}
-use native.Mathlib.Numerals.{add-one}
-use mathlib.Core.Bool.{Bool, true, false, cond, _&&_}
-use mathlib.Core.Option.{Option, none, some}
+use mathlib.Core.Bool.{Bool, true, false, cond}
+use mathlib.Core.Option.{none, some}
 use mathlib.Core.List.{List, [], _∷_, _++_, append-nil}
 use lib.ListN.{length, take, drop, length-append}
 use lib.Seq.{take-append-seam, drop-append-add, drop-drop}
-use lib.Dec.{ltb, eqb}
+use lib.Dec.{eqb}
 use borrow.Author.Tests.{lt-ltb, le-ltb, eqb-true}
-use Rattle.text.specs.Words.{if_then_else_, _>>=_, ensure, index, find, starts-with, starts}
+use Rattle.text.specs.Words.{index, starts-with, starts}
 use Rattle.text.specs.Utf8.{chars}
 use Rattle.text.proofs.Tests.{and-true}
 use Rattle.text.proofs.Laws.{chars-nil}

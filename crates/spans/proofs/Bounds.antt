@@ -1,19 +1,19 @@
 -- How long the records of a line's spans are: in bytes, for each turn and for a whole line.
 -- Assumes nothing.
-use mathlib.Core.Path.{_≡_, refl, sym, ap, _∙_}
-use Prim.Native.Nat.{ℕ, zero, suc, _+_, _*_, _≤_}
+use mathlib.Core.Path.{_≡_, refl, ap}
+use Prim.Native.Nat.{ℕ, _+_, _*_, _≤_}
 use native.Mathlib.Omega.{arith}
 use mathlib.Core.Bool.{Bool}
-use mathlib.Core.List.{List, [], _∷_, _++_}
+use mathlib.Core.List.{List, [], _∷_}
 use lib.ListN.{length, take, length-append, length-take}
-use Rattle.text.specs.Utf8.{utf8, encode, size}
+use Rattle.text.specs.Utf8.{utf8, size}
 use Rattle.text.proofs.Laws.{utf8-size}
 use Rattle.records.specs.Blocks.{Span}
 use Rattle.records.proofs.TextMore.{size-encode}
 use Rattle.records.specs.Format.{encode-text, encode-span, encode-spans}
 use Rattle.spans.specs.Spans.{Walk, step, spans}
-use Rattle.spans.specs.Turn.{Turn, turned, text-form, record-of, records-of}
-use Rattle.spans.proofs.Turns.{weigh, texts, Fits, Good, spans-fits, turn-fits}
+use Rattle.spans.specs.Turn.{Turn, turned, text-form, records-of}
+use Rattle.spans.proofs.Turns.{weigh, texts, spans-fits, turn-fits}
 
 -- ---- bytes: each weighs 1
 

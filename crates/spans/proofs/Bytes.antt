@@ -1,29 +1,29 @@
 -- The spans of a line's bytes are those of its characters, their texts as bytes: every mark is ASCII, and no byte of another character is.
 -- Assumes nothing.
 use mathlib.Core.Path.{_≡_, refl, sym, ap, ap₂, _∙_, subst}
-use mathlib.Core.Logic.{_⊎_, inl, inr, ⊎-elim}
+use mathlib.Core.Logic.{_⊎_, ⊎-elim}
 use Prim.Native.Nat.{ℕ, zero, suc, _+_, _≤_, _<_}
 use native.Mathlib.Omega.{arith}
-use mathlib.Core.Bool.{Bool, true, false, not, _&&_, _||_}
-use mathlib.Core.Option.{Option, none, some}
-use mathlib.Core.List.{List, [], _∷_, _++_, map, map-append, reverse, reverse-cons, reverse-append, reverse-reverse, append-nil, append-assoc}
-use lib.ListN.{length, take, drop, getD, length-append, length-drop, length-reverse}
+use mathlib.Core.Bool.{Bool, true, false, not}
+use mathlib.Core.Option.{none, some}
+use mathlib.Core.List.{List, [], _∷_, _++_, map, map-append, reverse, reverse-append, reverse-reverse, append-nil, append-assoc}
+use lib.ListN.{length, take, drop, length-append, length-reverse}
 use lib.Seq.{drop-drop}
 use lib.Dec.{eqb, ltb}
 use borrow.Author.Tests.{ne-eqb, eqb-true, eqb-false, ltb-true, ltb-false}
-use Rattle.text.specs.Words.{index, starts-with, is-empty}
+use Rattle.text.specs.Words.{starts-with}
 use Rattle.text.specs.Utf8.{IsScalar, utf8, encode, char, chars, stray}
 use Rattle.text.specs.declared.Char.{Char}
 use Rattle.text.specs.declared.Char.the-variants.{At, Bad, End}
 use Rattle.text.proofs.Tests.{decide}
 use Rattle.text.proofs.Utf8.{utf8-1, utf8-stray, sound, char-at}
-use Rattle.text.proofs.Laws.{chars-nil, chars-at, chars-bad, advance, advance-bad, Tails, Long, utf8-long, utf8-size, encode-append, encode-chars}
+use Rattle.text.proofs.Laws.{chars-nil, chars-at, chars-bad, Tails, Long, utf8-long, utf8-size, encode-append, encode-chars}
 use Rattle.text.proofs.AsciiLaws.{chars-ascii, chars-high}
 use Rattle.records.specs.Blocks.{Span}
-use Rattle.spans.specs.Spans.{Walk, at, push, cleared, span, flush, link, Step, made, label, kept, code-step, star-step, link-step, image-step, step, carry, walk, spans}
-use Rattle.spans.specs.Turn.{Turn, turn, linked, turned}
+use Rattle.spans.specs.Spans.{Walk, at, push, span, flush, link, Step, made, label, kept, code-step, star-step, link-step, image-step, step, carry, walk, spans}
+use Rattle.spans.specs.Turn.{turn, linked, turned}
 use Rattle.spans.proofs.SpanLaws.{shorter-drop, shorter-take, walk-end, walk-next, after, spans-eq}
-use Rattle.spans.proofs.Both.{Hit, both, first, starts-both, rest-both, LinkHit, link-both}
+use Rattle.spans.proofs.Both.{Hit, both, starts-both, rest-both, LinkHit, link-both}
 
 -- a span with its text's bytes
 abbrev pub as-bytes : Span → Span

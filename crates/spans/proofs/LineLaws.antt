@@ -1,7 +1,7 @@
 -- The laws of `line-spans`: what `spans_in` stores for the bytes of a line are the records of its characters' spans.
 -- Assumes nothing.
 use mathlib.Core.Path.{_≡_, refl, sym, ap, ap₂, _∙_}
-use Prim.Native.Nat.{ℕ, zero, suc, _+_, _*_, _^_, _≤_, _<_}
+use Prim.Native.Nat.{ℕ, _+_, _*_, _^_, _≤_, _<_}
 use native.Mathlib.Nat.{add-zero}
 use native.Mathlib.Omega.{arith}
 use mathlib.Core.Bool.{Bool, true, false, _&&_, _||_}
@@ -12,14 +12,14 @@ use lib.Dec.{leb}
 use borrow.Author.Tests.{le-leb, lt-leb, leb-true}
 use Rattle.text.specs.Utf8.{Scalars, utf8, encode, chars, size}
 use Rattle.text.proofs.Tests.{and-false, and-true, on}
-use Rattle.text.proofs.Laws.{utf8-size, encode-chars}
+use Rattle.text.proofs.Laws.{utf8-size, chars-nil, encode-chars}
 use Rattle.records.specs.Blocks.{Span}
 use Rattle.records.proofs.TextMore.{size-encode}
-use Rattle.records.specs.Format.{le32, bit, non-empty, encode-text, encode-span, encode-spans, WfSpans}
+use Rattle.records.specs.Format.{le32, non-empty, encode-text, encode-span, encode-spans, WfSpans}
 use Rattle.spans.specs.Spans.{spans}
 use Rattle.spans.specs.Line.{line-spans}
 use Rattle.spans.specs.Turn.{map-byte, text-form, record-of, records-of}
-use Rattle.spans.specs.declared.Written.{Written}
+use Rattle.spans.proofs.SpanLaws.{spans-nil}
 use Rattle.spans.proofs.Bounds.{spans-small, spans-few}
 use Rattle.spans.proofs.Wf.{spans-wf}
 use Rattle.spans.proofs.Bytes.{as-bytes, spans-bytes}
@@ -87,6 +87,10 @@ line-by P line at f g =
 chars-size : (line : List ℕ) → size (chars line) ≡ length line
 chars-size line = size-encode (chars line) ∙ ap length (encode-chars line)
 
+pub line-nil : (at : ℕ) → line-spans [] at ≡ []
+line-nil at = line-by (λ (ss : List Span). ss ≡ []) [] at refl (λ _. ap spans chars-nil ∙ spans-nil)
+
+-- the records of a line are at most six times as long as its bytes, it has few spans, and they all have a record where it is UTF-8
 pub line-small : (line : List ℕ) (at : ℕ) → length (encode-spans (line-spans line at)) ≤ 6 * length line
 line-small line at =
     line-by (λ ss. length (encode-spans ss) ≤ 6 * length line) line at (unfold encode-spans in omega arith)

@@ -5,14 +5,13 @@ use Prim.Native.Nat.{ℕ, zero, suc, _+_, _-_, _*_, _^_, _≤_, _<_}
 use native.Mathlib.Nat.{add-zero}
 use native.Mathlib.Omega.{arith}
 use native.Mathlib.Numerals.{add-one}
-use mathlib.Core.Bool.{Bool, true, false, _||_}
-use mathlib.Core.Option.{Option, none, some}
-use mathlib.Core.List.{List, [], _∷_, _++_, map, reverse, append-nil, append-assoc}
-use lib.ListN.{length, take, drop, getD, length-append, length-drop, length-take, length-map, drop-of-length-le}
+use mathlib.Core.Bool.{Bool, false, _||_}
+use mathlib.Core.List.{List, [], _∷_, _++_, map, reverse, append-assoc}
+use lib.ListN.{length, take, drop, getD, length-append, length-drop, length-map, drop-of-length-le}
 use lib.Seq.{sets, drop-cons, drop-drop, length-sets}
 use Rattle.records.specs.Blocks.{Span}
 use Rattle.spans.specs.Spans.{Walk, at, flush, step, carry, walk, spans}
-use Rattle.spans.specs.Turn.{Turn, linked, turned, record-of, records-of}
+use Rattle.spans.specs.Turn.{Turn, linked, turned, records-of}
 use Rattle.spans.specs.State.{head, pend, flush-of, link-by, link-to, link-head, Ready, walk-of, turn-at, state-after, Made}
 use Rattle.spans.specs.declared.State.{State}
 use Rattle.spans.specs.declared.Written.{Written}

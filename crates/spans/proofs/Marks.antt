@@ -1,32 +1,19 @@
 -- The turn of the walk at each mark, by what stands after it.
 -- Assumes nothing.
-use mathlib.Core.Path.{_≡_, refl, sym, ap, ap₂, _∙_, subst}
-use Prim.Native.Nat.{ℕ, zero, suc, _+_, _-_, _*_, _≤_, _<_}
-use native.Mathlib.Nat.{add-zero}
-use native.Mathlib.Omega.{arith}
+use mathlib.Core.Path.{_≡_, sym, ap, _∙_}
+use Prim.Native.Nat.{ℕ, _+_, _-_, _≤_, _<_}
 use native.Mathlib.Numerals.{add-one}
-use mathlib.Core.Bool.{Bool, true, false, not, _||_, _&&_}
-use mathlib.Core.Option.{Option, none, some}
-use mathlib.Core.List.{List, [], _∷_, _++_, map, reverse, reverse-cons, append-nil}
-use lib.ListN.{length, take, drop, getD, set, length-append, length-drop, length-reverse, drop-of-length-le}
-use lib.Seq.{sets, drop-cons, drop-drop}
-use lib.Dec.{eqb}
+use mathlib.Core.Bool.{not}
+use mathlib.Core.Option.{none, some}
+use mathlib.Core.List.{List, [], _∷_, _++_, map}
+use lib.ListN.{length, take, drop, getD, drop-of-length-le}
+use lib.Seq.{drop-cons}
 use borrow.Author.Tests.{eq-eqb, ne-eqb}
-use Rattle.text.specs.Words.{is, is-empty, index, starts}
-use Rattle.text.specs.declared.Found.{Found}
-use Rattle.text.specs.declared.Found.the-variants.{Here, Nowhere}
-use Rattle.text.proofs.Tests.{and-false}
-use Rattle.records.specs.Blocks.{Span}
-use Rattle.records.specs.Format.{le32, non-empty}
-use Rattle.spans.specs.Spans.{Walk, push, at, span, flush, cleared, link, Step, made, label, kept, code-step, star-step, link-step, image-step, step, carry, spans}
-use Rattle.spans.specs.Turn.{Turn, turn, linked, turned, map-byte, record-of, records-of}
-use Rattle.spans.specs.State.{next-at, head, pend, moved-to, push-of, flush-by, flush-of, code-span, code-of, link-by, link-to, link-head, walk-of, turn-at, state-after, Made, Does}
+use Rattle.text.specs.Words.{index}
+use Rattle.spans.specs.Spans.{push, at, flush, link, Step, made, label, kept, code-step, star-step, link-step, image-step, step, carry, spans}
+use Rattle.spans.specs.Turn.{Turn, turn, linked, turned}
+use Rattle.spans.specs.State.{code-span, walk-of, turn-at}
 use Rattle.spans.specs.declared.State.{State}
-use Rattle.spans.specs.declared.Written.{Written}
-use Rattle.spans.proofs.Search.{At, found-at, missed, Linked}
-use Rattle.spans.proofs.Turns.{flushed}
-use Rattle.records.proofs.Stores.{sets-append, gap}
-use Rattle.spans.proofs.Records.{rec-append, rec-one}
 
 -- ---- the turn of the walk at a byte that is known, by what stands after it
 

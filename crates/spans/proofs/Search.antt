@@ -1,25 +1,23 @@
 -- Searches: what one step of a search keeps, what an earlier search of the same line is worth, and a link's two searches with the test between.
 -- Assumes nothing.
-use mathlib.Core.Path.{_≡_, refl, sym, ap, ap₂, _∙_}
-use mathlib.Core.Logic.{_⊎_, inl, inr, ⊎-elim}
-use Prim.Native.Nat.{ℕ, zero, suc, _+_, _-_, _≤_, _<_}
+use mathlib.Core.Path.{_≡_, refl, ap, ap₂, _∙_}
+use mathlib.Core.Logic.{_⊎_, ⊎-elim}
+use Prim.Native.Nat.{ℕ, suc, _+_, _-_, _≤_, _<_}
 use native.Mathlib.Omega.{arith}
 use native.Mathlib.Numerals.{add-one}
-use mathlib.Core.Bool.{Bool, true, false, cond, _&&_}
+use mathlib.Core.Bool.{Bool, true, false, _&&_}
 use mathlib.Core.Option.{Option, none, some}
 use mathlib.Core.List.{List, [], _∷_}
-use lib.ListN.{length, drop, getD, set, length-drop, length-set, drop-of-length-le}
+use lib.ListN.{length, drop, getD, set, length-drop, length-set, drop-of-length-le, List·getD-eq-default}
 use lib.Seq.{drop-cons, drop-drop, getD-set-same, getD-set-other}
 use lib.Dec.{ltb, eqb}
 use borrow.Author.Tests.{lt-ltb, le-ltb, eq-eqb, ne-eqb, ltb-true, ltb-false}
 use Rattle.text.specs.Words.{if_then_else_, _>>=_, ensure, index, find, starts}
 use Rattle.text.specs.Find.{found}
-use Rattle.text.specs.declared.Found.{Found}
 use Rattle.text.specs.declared.Found.the-variants.{Here, Nowhere}
 use Rattle.text.proofs.Tests.{decide, on}
 use Rattle.spans.specs.Spans.{link}
 use Rattle.spans.specs.State.{next-at, placed, link-at, Clear, Known, resumed}
-use Rattle.spans.specs.declared.Link.{Link}
 use Rattle.spans.specs.declared.Link.the-variants.{Ends, Nothing}
 
 -- ---- one step of a search
@@ -185,28 +183,32 @@ module _ (s : List ℕ) (from i : ℕ) (read : Clear 93 s from i) where
         let e : from + (close .more + n) ≡ i + n = omega (arith, close .place) in
         drop-drop (close .more + n) from s ∙ ap (λ (k : ℕ). drop k s) e
 
-    pub no-paren-end : length s ≤ i + 1 → Nothing ≡ link-at s from
+    pub no-paren : (getD s (i + 1) 0 ≡ 40 → ⊥) → Nothing ≡ link-at s from
     unfolding link
-    no-paren-end l = rw (close .found-is, after 1, drop-of-length-le s l)
+    no-paren n =
+        ⊎-elim
+        (λ e. rw (close .found-is, after 1, drop-cons s (i + 1) 0 (ltb-true (i + 1) (length s) e), ne-eqb (getD s (i + 1) 0) 40 n))
+        (λ e. rw (close .found-is, after 1, drop-of-length-le s (ltb-false (i + 1) (length s) e)))
+        (decide (ltb (i + 1) (length s)))
 
-    pub no-paren : i + 1 < length s → (getD s (i + 1) 0 ≡ 40 → ⊥) → Nothing ≡ link-at s from
-    unfolding link
-    no-paren l n = rw (close .found-is, after 1, drop-cons s (i + 1) 0 l, ne-eqb (getD s (i + 1) 0) 40 n)
-
-    module _ (l : i + 1 < length s) (paren : getD s (i + 1) 0 ≡ 40) (j : ℕ) (more : Clear 41 s (i + 1 + 1) j) where
-      two : drop (close .more + 2) (drop from s) ≡ drop (i + 1 + 1) s
-      two = let e : i + 2 ≡ i + 1 + 1 = omega arith in after 2 ∙ ap (λ (k : ℕ). drop k s) e
+    module _ (paren : getD s (i + 1) 0 ≡ 40) (j : ℕ) (more : Clear 41 s (i + 2) j) where
+      starts-target : starts "(" (drop (i + 1) s) ≡ true
+      starts-target =
+          ⊎-elim
+          (λ e. rw (drop-cons s (i + 1) 0 (ltb-true (i + 1) (length s) e), eq-eqb (getD s (i + 1) 0) 40 paren))
+          (λ e. absurd (omega (arith, List·getD-eq-default s 0 (ltb-false (i + 1) (length s) e))))
+          (decide (ltb (i + 1) (length s)))
 
       pub no-end : length s ≤ j → Nothing ≡ link-at s from
       unfolding link
       no-end m =
-          rw (close .found-is, after 1, drop-cons s (i + 1) 0 l, eq-eqb (getD s (i + 1) 0) 40 paren, two, missed 41 s (i + 1 + 1) (clear-next 41 s (i + 1 + 1) j more ∙ next-end 41 s j m))
+          rw (close .found-is, after 1, starts-target, after 2, missed 41 s (i + 2) (clear-next 41 s (i + 2) j more ∙ next-end 41 s j m))
 
       pub closed : j < length s → getD s j 0 ≡ 41 → Ends i j ≡ link-at s from
       unfolding link
       closed m e =
-          let end = found-at 41 s (i + 1 + 1) j (clear-next 41 s (i + 1 + 1) j more ∙ next-here 41 s j m e) in
-          rw (close .found-is, after 1, drop-cons s (i + 1) 0 l, eq-eqb (getD s (i + 1) 0) 40 paren, two, end .found-is)
+          let end = found-at 41 s (i + 2) j (clear-next 41 s (i + 2) j more ∙ next-here 41 s j m e) in
+          rw (close .found-is, after 1, starts-target, after 2, end .found-is)
           (ap₂ Ends (omega (arith, close .place)) (omega (arith, close .place, end .place)))
 
 -- where a found link's label and target end, in the line and after its `[`

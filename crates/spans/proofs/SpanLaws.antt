@@ -1,14 +1,14 @@
 -- The laws of `spans`: the loop turn by turn, and that any depth above the length of a line gives its spans.
 -- Assumes nothing.
-use mathlib.Core.Path.{_≡_, refl, sym, ap, ap₂, _∙_, subst}
+use mathlib.Core.Path.{_≡_, refl, sym, ap, _∙_}
 use Prim.Native.Nat.{ℕ, zero, suc, _+_, _-_, _≤_, _<_}
 use native.Mathlib.Omega.{arith}
-use mathlib.Core.Bool.{Bool, true, false, not}
+use mathlib.Core.Bool.{false}
 use mathlib.Core.List.{List, [], _∷_, _++_, map, append-assoc}
 use lib.ListN.{length, take, drop, length-drop, length-take}
 use Rattle.records.specs.Blocks.{Span}
 use Rattle.spans.specs.Spans.{Walk, at, flush, cleared, Step, made, label, step, carry, labelled, on-step, walk, spans-at, spans}
-use Rattle.spans.specs.Turn.{Turn, turn, linked, turned}
+use Rattle.spans.specs.Turn.{Turn, linked, turned}
 
 pub shorter-drop : (n : ℕ) (l : List ℕ) → length (drop n l) ≤ length l
 shorter-drop n l = omega (arith, length-drop n l)

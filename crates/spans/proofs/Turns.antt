@@ -1,21 +1,20 @@
 -- How far a turn goes, and how much text and how many spans it ends, by any weight of characters.
 -- Assumes nothing.
-use mathlib.Core.Path.{_≡_, refl, sym, ap, ap₂, _∙_, subst}
-use mathlib.Core.Logic.{_⊎_, inl, inr, ⊎-elim}
+use mathlib.Core.Path.{_≡_, refl, ap, subst}
 use Prim.Native.Nat.{ℕ, zero, suc, _+_, _-_, _*_, _≤_, _<_}
 use native.Mathlib.Nat.{zero-add}
 use native.Mathlib.Omega.{arith}
-use mathlib.Core.Bool.{Bool, true, false, not, cond, _&&_}
+use mathlib.Core.Bool.{Bool, true, false, not, _&&_}
 use mathlib.Core.Option.{Option, none, some}
 use mathlib.Core.List.{List, [], _∷_, _++_, map, reverse, reverse-cons}
-use lib.ListN.{length, take, drop, getD, length-append, length-drop, length-take, length-map}
-use Rattle.text.specs.Words.{if_then_else_, case, is, is-empty, starts, index, find}
+use lib.ListN.{length, take, drop, getD, length-append, length-drop, length-map}
+use Rattle.text.specs.Words.{if_then_else_, case, is, is-empty, starts, find}
 use Rattle.text.proofs.Tests.{on, and-true}
 use Rattle.records.specs.Blocks.{Span}
 use Rattle.spans.specs.Spans.{Walk, at, push, cleared, span, flush, link, Step, made, label, kept, code-step, star-step, link-step, image-step, step, carry, walk, spans}
 use Rattle.spans.specs.Turn.{Turn, turn, linked, turned}
 use Rattle.spans.proofs.Search.{index-inside, Inside, LinkIn, link-in}
-use Rattle.spans.proofs.SpanLaws.{shorter-drop, shorter-take, walk-end, walk-next, after, spans-eq}
+use Rattle.spans.proofs.SpanLaws.{shorter-drop, shorter-take, walk-end, walk-next, spans-eq}
 
 -- ---- weights
 

@@ -1,9 +1,9 @@
 -- The spans of a line have records: where its characters are scalar values so are those of each text, and a text is empty only in code.
 -- Assumes nothing.
-use mathlib.Core.Path.{_≡_, refl, sym, ap, _∙_, subst}
+use mathlib.Core.Path.{_≡_, refl, sym, ap, subst}
 use Prim.Native.Nat.{ℕ, zero, suc, _+_, _^_, _≤_, _<_}
 use native.Mathlib.Omega.{arith}
-use mathlib.Core.Bool.{Bool, true, false, not, _&&_, _||_}
+use mathlib.Core.Bool.{true, false, not, _&&_, _||_}
 use mathlib.Core.List.{List, [], _∷_, _++_, map, reverse, reverse-cons}
 use lib.ListN.{length, take, drop, getD, length-reverse}
 use Rattle.text.specs.Words.{is, is-empty, starts, find}
@@ -11,11 +11,11 @@ use Rattle.text.specs.Utf8.{IsScalar, Scalars, size}
 use Rattle.text.proofs.Tests.{on, and-true, or-right}
 use Rattle.text.proofs.Laws.{scalars-append}
 use Rattle.records.specs.Blocks.{Span}
-use Rattle.records.specs.Format.{non-empty, WfSpan, WfSpans}
-use Rattle.spans.specs.Spans.{Walk, at, push, cleared, span, flush, link, Step, made, label, kept, code-step, star-step, link-step, image-step, step, carry, walk, spans}
+use Rattle.records.specs.Format.{non-empty, WfSpans}
+use Rattle.spans.specs.Spans.{Walk, at, push, span, flush, link, Step, made, kept, code-step, star-step, link-step, image-step, step, carry, walk, spans}
 use Rattle.spans.specs.Turn.{Turn, turn, linked, turned}
 use Rattle.spans.proofs.SpanLaws.{shorter-drop, shorter-take, walk-end, walk-next, spans-eq}
-use Rattle.spans.proofs.Turns.{weigh, texts, flushed, by-case, not-empty}
+use Rattle.spans.proofs.Turns.{texts, flushed, by-case, not-empty}
 use Rattle.spans.proofs.Bounds.{bytes, weigh-bytes, spans-texts}
 
 -- ---- scalar values in parts of a list

@@ -2,12 +2,12 @@
 -- Assumes nothing.
 use mathlib.Core.Path.{_≡_}
 use Prim.Native.Nat.{ℕ, zero, suc, _+_, _-_, _*_, _^_, _<_, _≤_}
-use mathlib.Core.Bool.{Bool, true, false}
+use mathlib.Core.Bool.{Bool, true}
 use mathlib.Core.Option.{Option, none, some}
 use mathlib.Core.List.{List, [], _∷_, reverse}
 use lib.ListN.{length, drop, getD}
 use lib.Seq.{sets}
-use lib.Dec.{ltb, leb}
+use lib.Dec.{ltb}
 use Rattle.text.specs.Words.{if_then_else_, index}
 use Rattle.text.specs.Find.{found}
 use Rattle.text.specs.declared.Found.{Found}

@@ -1,10 +1,11 @@
 // The spans of a line: bold, italic, code, links and images, read from the line's bytes and written as records.
 ghost use mathlib.Core.Path.{_≡_};
-ghost use mathlib.Core.List.{List, _∷_};
-ghost use Prim.Native.Nat.{ℕ, _+_, _*_, _^_, _-_, _≤_, _<_};
+ghost use mathlib.Core.List.{_∷_};
+ghost use Prim.Native.Nat.{_+_, _*_, _^_, _-_, _≤_, _<_};
 ghost use mathlib.Core.Bool.{Bool, true, false, _||_};
-ghost use lib.ListN.{length, drop, set, getD};
+ghost use lib.ListN.{length, set, getD};
 ghost use lib.Seq.{sets};
+ghost use lib.Dec.{eqb};
 ghost use Rattle.records.specs.Format.{le32, bit, encode-spans};
 ghost use Rattle.spans.specs.Spans.{spans};
 ghost use Rattle.spans.specs.Line.{line-spans};
@@ -14,9 +15,10 @@ use records::writer::put;
 use records::writer::put_bytes;
 use records::writer::put_u32;
 use text::Found;
+use text::byte;
 
 // The place of a link's `]`, and of its `)`.
-pub enum Link {
+enum Link {
     Ends(usize, usize),
     Nothing,
 }
@@ -34,7 +36,9 @@ fn resume(low: usize, high: usize, from: usize) -> usize
     high
 }
 
-// Notes that the mark with the place k in `seen` does not stand from `low` on below `high`.
+// What the searches of one line have seen: for `]`, `)` and the backtick, at places 0, 2 and 4, a range in which that mark does not stand.
+// A search starts after its range and notes the new one, so that no byte is searched twice for the same mark.
+// Notes that the mark at place k does not stand from `low` on below `high`.
 fn note(seen: &mut [usize; 6], k: usize, low: usize, high: usize)
     requires { ⌜ k < 5 ⌝ }
     ensures { λ _. ⌜ now (seen .exit) ≡ set (set (now (seen .entry)) k low) (k + 1) high ⌝ }
@@ -43,7 +47,15 @@ fn note(seen: &mut [usize; 6], k: usize, low: usize, high: usize)
     seen[k + 1] = high;
 }
 
-// The next backtick at or after `from`. A search notes in `seen` the range that it read, and no later one reads it again.
+// Whether code ends at i. A backslash before the backtick does not protect it.
+fn ends_code(s: &[u8], i: usize) -> bool
+    requires { ⌜ i < length (now s) ⌝ }
+    ensures { λ r. ⌜ r ≡ eqb (getD (now (s .entry)) i 0) 96 ⌝ }
+{
+    s[i] == b'`'
+}
+
+// The next backtick at or after `from`.
 fn find(s: &[u8], from: usize, seen: &mut [usize; 6]) -> Found
     requires { ⌜ Known (now s) (now seen) ⌝ }
     ensures { λ r. ⌜ (r ≡ next-at 96 (now (s .entry)) from) × Known (now (s .entry)) (now (seen .exit)) ⌝ }
@@ -54,7 +66,7 @@ fn find(s: &[u8], from: usize, seen: &mut [usize; 6]) -> Found
             note(seen, 4, from, i);
             return Found::Nowhere;
         }
-        if s[i] == b'`' {
+        if ends_code(s, i) {
             break 'tick i;
         }
         i += 1;
@@ -63,16 +75,15 @@ fn find(s: &[u8], from: usize, seen: &mut [usize; 6]) -> Found
     Found::Here(at)
 }
 
-// The link whose label starts at `from`; the searches for `]` and `)` note what they read.
+// The link whose label starts at `from`: the search is left at the first bracket that is missing. 40 is `(`.
 fn find_link(s: &[u8], from: usize, seen: &mut [usize; 6]) -> Link
     requires { ⌜ Known (now s) (now seen) ⌝ }
     ensures { λ r. ⌜ (r ≡ link-at (now (s .entry)) from) × Known (now (s .entry)) (now (seen .exit)) ⌝ }
 {
-    let n = s.len();
     'link: loop {
         let mut i = resume(seen[0], seen[1], from);
         let close = 'close: loop {
-            if n <= i {
+            if s.len() <= i {
                 note(seen, 0, from, i);
                 break 'link Link::Nothing;
             }
@@ -82,19 +93,15 @@ fn find_link(s: &[u8], from: usize, seen: &mut [usize; 6]) -> Link
             i += 1;
         };
         note(seen, 0, from, close);
-        let paren = close + 1;
         let target = 'paren: loop {
-            if n <= paren {
+            if byte(s, close + 1) != 40 {
                 break 'link Link::Nothing;
             }
-            if s[paren] != b'(' {
-                break 'link Link::Nothing;
-            }
-            break 'paren paren + 1;
+            break 'paren close + 2;
         };
         let mut j = resume(seen[2], seen[3], target);
         let end = 'end: loop {
-            if n <= j {
+            if s.len() <= j {
                 note(seen, 2, target, j);
                 break 'link Link::Nothing;
             }
@@ -137,7 +144,7 @@ fn map_byte(bold: bool, italic: bool, code: bool, text: bool) -> u8
 
 // Where the walk is: the next byte of the line; where the pending span's record starts, how long its text is, and how many spans
 // stand before it; and the emphasis. The pending text is stored behind a gap of five bytes for its head, which is stored when the span ends.
-pub struct State {
+struct State {
     pub i: usize,
     pub at: usize,
     pub len: usize,

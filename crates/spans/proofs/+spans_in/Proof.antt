@@ -1,13 +1,13 @@
 -- The proof of the cycle of calls {spans_in}. The measure is the line's length: a label is shorter than its line.
 -- Assumes nothing.
-use mathlib.Core.Path.{_≡_, refl, sym, ap, _∙_}
+use mathlib.Core.Path.{refl, sym, _∙_}
 use Prim.Native.Nat.{ℕ, _+_, _-_, _<_}
 use native.Mathlib.Omega.{arith}
 use lib.ListN.{length, take, drop, length-take, length-drop}
 use borrow.Author.Needs.{needs}
 use borrow.Fn.Kinds.{In}
 use borrow.Fn.PlainCycle.{Measures, is, falls, and}
-use Rattle.spans.specs.State.{pend, Known}
+use Rattle.spans.specs.State.{Known}
 use Rattle.spans.proofs.Search.{known-none, link-found, unlinked}
 use Rattle.spans.proofs.Marks.{open-none}
 use Rattle.spans.proofs.Made.{made-as, push-made}

@@ -1,23 +1,14 @@
 -- `bang` makes the turn at an exclamation mark.
 -- Assumes nothing.
-use mathlib.Core.Path.{_≡_, refl, sym, ap, ap₂, _∙_}
-use Prim.Native.Nat.{ℕ, _+_, _-_, _<_, _≤_}
+use mathlib.Core.Path.{refl, sym, _∙_}
+use Prim.Native.Nat.{_+_, _-_}
 use native.Mathlib.Omega.{arith}
-use mathlib.Core.Bool.{Bool, true, false}
-use mathlib.Core.List.{List, [], _∷_}
-use lib.ListN.{length, getD, drop, take, length-take, length-drop}
-use lib.Seq.{sets}
 use Rattle.spans.proofs.Search.{link-found, unlinked}
 use Rattle.spans.proofs.Marks.{bang-last, bang-other, bang-none, bang-some}
 use Rattle.spans.proofs.Made.{made-as, push-made, image-made}
 use borrow.Author.Needs.{needs}
 use Rattle.spans.proofs.bang.Statement.{statement}
 use Rattle.spans.proofs.bang.Tie as tie
-use Rattle.spans.proofs.bang.Reads as reads
-use Rattle.spans.proofs.bang.Lts as lts
-use Rattle.spans.proofs.find_link.Reads as find-link-reads
-use Rattle.spans.proofs.moved.Reads as moved-reads
-use Rattle.spans.proofs.push.Reads as push-reads
 
 add-j : tie.Need-add-j
 add-j c = search needs

@@ -1,20 +1,12 @@
 -- `escape` makes the turn at a backslash.
 -- Assumes nothing.
-use mathlib.Core.Path.{_≡_, refl, sym, ap, ap₂, _∙_}
-use Prim.Native.Nat.{ℕ, _+_, _-_, _<_, _≤_}
-use native.Mathlib.Omega.{arith}
-use mathlib.Core.Bool.{Bool, true, false}
-use mathlib.Core.List.{List, [], _∷_}
-use lib.ListN.{length, getD, drop, take, length-take, length-drop}
-use lib.Seq.{sets}
+use mathlib.Core.Path.{refl}
+use Prim.Native.Nat.{_-_}
 use Rattle.spans.proofs.Marks.{escape-next, escape-last}
 use Rattle.spans.proofs.Made.{made-as, push-made}
 use borrow.Author.Needs.{needs}
 use Rattle.spans.proofs.escape.Statement.{statement}
 use Rattle.spans.proofs.escape.Tie as tie
-use Rattle.spans.proofs.escape.Reads as reads
-use Rattle.spans.proofs.escape.Lts as lts
-use Rattle.spans.proofs.push.Reads as push-reads
 
 add-j : tie.Need-add-j
 add-j c = search needs

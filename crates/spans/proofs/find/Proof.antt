@@ -1,18 +1,15 @@
 -- `find`: the search for a backtick starts after what is known of the line, and notes what it read.
 -- Assumes nothing.
 use borrow.Author.Needs.{needs}
-use mathlib.Core.Path.{_≡_, refl, sym, ap, _∙_}
-use Prim.Native.Nat.{ℕ, _+_, _-_, _<_, _≤_}
+use mathlib.Core.Path.{sym, _∙_}
+use Prim.Native.Nat.{_-_}
 use native.Mathlib.Omega.{arith}
-use lib.ListN.{length, getD, set}
-use Rattle.spans.specs.State.{Clear, Known, next-at}
+use lib.ListN.{length}
+use Rattle.spans.specs.State.{Clear, Known}
+use borrow.Author.Tests.{eqb-true, eqb-false}
 use Rattle.spans.proofs.Search.{clear-resumed, clear-step, clear-next, next-end, next-here, note-tick}
 use Rattle.spans.proofs.find.Statement.{statement}
 use Rattle.spans.proofs.find.Tie as tie
-use Rattle.spans.proofs.find.Reads as reads
-use Rattle.spans.proofs.find.Lts as lts
-use Rattle.spans.proofs.note.Reads as note-reads
-use Rattle.spans.proofs.resume.Reads as resume-reads
 
 abbrev Inv-tick : tie.InvT-tick
 Inv-tick s from seen₀ i₀ seen i = Clear 96 s from i × Known s seen
@@ -38,8 +35,8 @@ note-requires c κs = search needs
 returns : tie.Need-returns Inv-tick μ-tick
 returns c = (sym (clear-next 96 _ _ _ (c .before .before .before .tick .inv .0) ∙ next-end 96 _ _ (c .before .before .if1 .taken)), note-tick _ _ (c .before .before .before .tick .inv .1) _ _ (c .before .before .before .tick .inv .0) _ (c .note .ensures))
 
-shared-slice-read-if2 : tie.Need-shared-slice-read-if2 Inv-tick μ-tick
-shared-slice-read-if2 c = omega arith
+ends-code-requires : tie.Need-ends-code-requires Inv-tick μ-tick
+ends-code-requires c κs = search needs
 
 add-i : tie.Need-add-i Inv-tick μ-tick
 add-i c = omega arith
@@ -48,13 +45,13 @@ tick-less : tie.Need-tick-less Inv-tick μ-tick
 tick-less c = omega arith
 
 tick-again : tie.Need-tick-again Inv-tick μ-tick
-tick-again c = (clear-step 96 _ _ _ (c .before .before .before .tick .inv .0) (c .before .before .if1 .left) (c .if2 .left), c .before .before .before .tick .inv .1)
+tick-again c = (clear-step 96 _ _ _ (c .before .before .before .tick .inv .0) (c .before .before .if1 .left) (eqb-false _ _ (sym (c .before .ends-code .ensures) ∙ c .if2 .left)), c .before .before .before .tick .inv .1)
 
 note-requires-2 : tie.Need-note-requires-2 Inv-tick μ-tick
 note-requires-2 c κs = search needs
 
 returns-2 : tie.Need-returns-2 Inv-tick μ-tick
-returns-2 c = (sym (clear-next 96 _ _ _ (c .before .before .before .before .before .tick .inv .0) ∙ next-here 96 _ _ (c .before .before .before .before .if1 .left) (c .before .before .if2 .taken)), note-tick _ _ (c .before .before .before .before .before .tick .inv .1) _ _ (c .before .before .before .before .before .tick .inv .0) _ (c .note2 .ensures))
+returns-2 c = (sym (clear-next 96 _ _ _ (c .before .before .before .before .before .tick .inv .0) ∙ next-here 96 _ _ (c .before .before .before .before .if1 .left) (eqb-true _ _ (sym (c .before .before .before .ends-code .ensures) ∙ c .before .before .if2 .taken))), note-tick _ _ (c .before .before .before .before .before .tick .inv .1) _ _ (c .before .before .before .before .before .tick .inv .0) _ (c .note2 .ensures))
 
 pub find-spec : {M : Type 1} → statement M
 find-spec =
@@ -68,7 +65,7 @@ find-spec =
     tick-holds
     note-requires
     returns
-    shared-slice-read-if2
+    ends-code-requires
     add-i
     tick-less
     tick-again

@@ -1,42 +1,38 @@
 -- `find_link`: two searches that start after what is known of the line, and a test between them. The outer loop and the one for `(` make one turn.
 -- Assumes nothing.
 use borrow.Author.Needs.{needs}
-use mathlib.Core.Path.{_≡_, refl, sym, ap, _∙_}
-use Prim.Native.Nat.{ℕ, _+_, _-_, _<_, _≤_}
+use mathlib.Core.Path.{sym, _∙_}
+use Prim.Native.Nat.{_-_}
 use native.Mathlib.Omega.{arith}
-use lib.ListN.{length, getD, set}
+use lib.ListN.{length}
 use Rattle.spans.specs.State.{Clear, Known}
-use Rattle.spans.proofs.Search.{clear-resumed, clear-step, note-close, note-end, no-close, no-paren-end, no-paren, no-end, closed}
+use Rattle.spans.proofs.Search.{clear-resumed, clear-step, note-close, note-end, no-close, no-paren, no-end, closed}
 use Rattle.spans.proofs.find_link.Statement.{statement}
 use Rattle.spans.proofs.find_link.Tie as tie
-use Rattle.spans.proofs.find_link.Reads as reads
-use Rattle.spans.proofs.find_link.Lts as lts
-use Rattle.spans.proofs.note.Reads as note-reads
-use Rattle.spans.proofs.resume.Reads as resume-reads
 
 abbrev Inv-close : tie.InvT-close
-Inv-close s from seen₀ n i₀ seen i = Clear 93 s from i × Known s seen
+Inv-close s from seen₀ i₀ seen i = Clear 93 s from i × Known s seen
 
 abbrev μ-close : tie.MeasureT-close
-μ-close s from seen₀ n i₀ seen i = n - i
+μ-close s from seen₀ i₀ seen i = length s - i
 
 abbrev Inv-paren : tie.InvT-paren
-Inv-paren s from seen n i close paren = Unit
+Inv-paren s from seen i close = Unit
 
 abbrev μ-paren : tie.MeasureT-paren
-μ-paren s from seen n i close paren = 0
+μ-paren s from seen i close = 0
 
 abbrev Inv-end : tie.InvT-end
-Inv-end s from seen₀ n i close paren target j₀ seen j = Clear 41 s target j × Known s seen
+Inv-end s from seen₀ i close target j₀ seen j = Clear 41 s target j × Known s seen
 
 abbrev μ-end : tie.MeasureT-end
-μ-end s from seen₀ n i close paren target j₀ seen j = n - j
+μ-end s from seen₀ i close target j₀ seen j = length s - j
 
 abbrev Inv-link : tie.InvT-link
-Inv-link s from seen₀ n seen = Known s seen
+Inv-link s from seen₀ seen = Known s seen
 
 abbrev μ-link : tie.MeasureT-link
-μ-link s from seen₀ n seen = 0
+μ-link s from seen₀ seen = 0
 
 link-holds : tie.Need-link-holds Inv-close μ-close Inv-paren μ-paren Inv-end μ-end Inv-link μ-link
 link-holds c = c .before .pre
@@ -103,24 +99,16 @@ note-requires-2 :
     tie.Need-note-requires-2 Inv-close μ-close Inv-paren μ-paren Inv-end μ-end Inv-link μ-link
 note-requires-2 c κs = search needs
 
-add-paren : tie.Need-add-paren Inv-close μ-close Inv-paren μ-paren Inv-end μ-end Inv-link μ-link
-add-paren c = omega arith
-
 paren-holds :
     tie.Need-paren-holds Inv-close μ-close Inv-paren μ-paren Inv-end μ-end Inv-link μ-link
 paren-holds c = tt
 
-shared-slice-read-if4 :
-    tie.Need-shared-slice-read-if4
-    Inv-close
-    μ-close
-    Inv-paren
-    μ-paren
-    Inv-end
-    μ-end
-    Inv-link
-    μ-link
-shared-slice-read-if4 c = omega arith
+add-byte : tie.Need-add-byte Inv-close μ-close Inv-paren μ-paren Inv-end μ-end Inv-link μ-link
+add-byte c = omega arith
+
+byte-requires :
+    tie.Need-byte-requires Inv-close μ-close Inv-paren μ-paren Inv-end μ-end Inv-link μ-link
+byte-requires c κs = search needs
 
 add-target : tie.Need-add-target Inv-close μ-close Inv-paren μ-paren Inv-end μ-end Inv-link μ-link
 add-target c = omega arith
@@ -154,14 +142,14 @@ resume-requires-2 :
 resume-requires-2 c κs = search needs
 
 end-holds : tie.Need-end-holds Inv-close μ-close Inv-paren μ-paren Inv-end μ-end Inv-link μ-link
-end-holds c = let k = note-close _ _ (c .before .before .before .before .before .before .before .before .before .before .before .before .close .inv .1) _ _ (c .before .before .before .before .before .before .before .before .before .before .before .before .close .inv .0) _ (c .before .before .before .before .before .before .before .note2 .ensures) in (rw (c .resume2 .ensures) (clear-resumed 41 _ _ _ _ (k .end)), k)
+end-holds c = let k = note-close _ _ (c .before .before .before .before .before .before .before .before .before .before .before .close .inv .1) _ _ (c .before .before .before .before .before .before .before .before .before .before .before .close .inv .0) _ (c .before .before .before .before .before .before .note2 .ensures) in (rw (c .resume2 .ensures) (clear-resumed 41 _ _ _ _ (k .end)), k)
 
 note-requires-3 :
     tie.Need-note-requires-3 Inv-close μ-close Inv-paren μ-paren Inv-end μ-end Inv-link μ-link
 note-requires-3 c κs = search needs
 
-shared-slice-read-if6 :
-    tie.Need-shared-slice-read-if6
+shared-slice-read-if5 :
+    tie.Need-shared-slice-read-if5
     Inv-close
     μ-close
     Inv-paren
@@ -170,7 +158,7 @@ shared-slice-read-if6 :
     μ-end
     Inv-link
     μ-link
-shared-slice-read-if6 c = omega arith
+shared-slice-read-if5 c = omega arith
 
 add-j : tie.Need-add-j Inv-close μ-close Inv-paren μ-paren Inv-end μ-end Inv-link μ-link
 add-j c = omega arith
@@ -179,7 +167,7 @@ end-less : tie.Need-end-less Inv-close μ-close Inv-paren μ-paren Inv-end μ-en
 end-less c = omega arith
 
 end-again : tie.Need-end-again Inv-close μ-close Inv-paren μ-paren Inv-end μ-end Inv-link μ-link
-end-again c = (clear-step 41 _ _ _ (c .before .before .before .end .inv .0) (c .before .before .if5 .left) (c .if6 .left), c .before .before .before .end .inv .1)
+end-again c = (clear-step 41 _ _ _ (c .before .before .before .end .inv .0) (c .before .before .if4 .left) (c .if5 .left), c .before .before .before .end .inv .1)
 
 note-requires-4 :
     tie.Need-note-requires-4 Inv-close μ-close Inv-paren μ-paren Inv-end μ-end Inv-link μ-link
@@ -189,16 +177,13 @@ returns : tie.Need-returns Inv-close μ-close Inv-paren μ-paren Inv-end μ-end 
 returns c = (no-close _ _ _ (c .before .before .before .close .inv .0) (c .before .before .if1 .taken), note-close _ _ (c .before .before .before .close .inv .1) _ _ (c .before .before .before .close .inv .0) _ (c .note .ensures))
 
 returns-2 : tie.Need-returns-2 Inv-close μ-close Inv-paren μ-paren Inv-end μ-end Inv-link μ-link
-returns-2 c = (no-paren-end _ _ _ (c .before .before .before .before .before .before .before .close .inv .0) (c .before .before .before .before .before .before .if1 .left) (c .before .before .before .before .if2 .taken) (c .if3 .taken), (note-close _ _ (c .before .before .before .before .before .before .before .close .inv .1) _ _ (c .before .before .before .before .before .before .before .close .inv .0) _ (c .before .before .note2 .ensures)))
+returns-2 c = (no-paren _ _ _ (c .before .before .before .before .before .before .before .before .close .inv .0) (c .before .before .before .before .before .before .before .if1 .left) (c .before .before .before .before .before .if2 .taken) (λ e. c .if3 .taken (c .before .byte .ensures ∙ e)), note-close _ _ (c .before .before .before .before .before .before .before .before .close .inv .1) _ _ (c .before .before .before .before .before .before .before .before .close .inv .0) _ (c .before .before .before .note2 .ensures))
 
 returns-3 : tie.Need-returns-3 Inv-close μ-close Inv-paren μ-paren Inv-end μ-end Inv-link μ-link
-returns-3 c = (no-paren _ _ _ (c .before .before .before .before .before .before .before .before .before .close .inv .0) (c .before .before .before .before .before .before .before .before .if1 .left) (c .before .before .before .before .before .before .if2 .taken) (c .before .before .if3 .left) (c .if4 .taken), (note-close _ _ (c .before .before .before .before .before .before .before .before .before .close .inv .1) _ _ (c .before .before .before .before .before .before .before .before .before .close .inv .0) _ (c .before .before .before .before .note2 .ensures)))
+returns-3 c = (no-end _ _ _ (c .before .before .before .before .before .before .before .before .before .before .before .before .before .before .before .close .inv .0) (c .before .before .before .before .before .before .before .before .before .before .before .before .before .before .if1 .left) (c .before .before .before .before .before .before .before .before .before .before .before .before .if2 .taken) (sym (c .before .before .before .before .before .before .before .before .byte .ensures) ∙ c .before .before .before .before .before .before .before .if3 .left) _ (c .before .before .before .end .inv .0) (c .before .before .if4 .taken), note-end _ _ (c .before .before .before .end .inv .1) _ _ (c .before .before .before .end .inv .0) _ (c .note3 .ensures))
 
 returns-4 : tie.Need-returns-4 Inv-close μ-close Inv-paren μ-paren Inv-end μ-end Inv-link μ-link
-returns-4 c = (no-end _ _ _ (c .before .before .before .before .before .before .before .before .before .before .before .before .before .before .before .before .close .inv .0) (c .before .before .before .before .before .before .before .before .before .before .before .before .before .before .before .if1 .left) (c .before .before .before .before .before .before .before .before .before .before .before .before .before .if2 .taken) (c .before .before .before .before .before .before .before .before .before .if3 .left) (c .before .before .before .before .before .before .before .if4 .left) _ (c .before .before .before .end .inv .0) (c .before .before .if5 .taken), note-end _ _ (c .before .before .before .end .inv .1) _ _ (c .before .before .before .end .inv .0) _ (c .note3 .ensures))
-
-returns-5 : tie.Need-returns-5 Inv-close μ-close Inv-paren μ-paren Inv-end μ-end Inv-link μ-link
-returns-5 c = (closed _ _ _ (c .before .before .before .before .before .before .before .before .before .before .before .before .before .before .before .before .before .before .close .inv .0) (c .before .before .before .before .before .before .before .before .before .before .before .before .before .before .before .before .before .if1 .left) (c .before .before .before .before .before .before .before .before .before .before .before .before .before .before .before .if2 .taken) (c .before .before .before .before .before .before .before .before .before .before .before .if3 .left) (c .before .before .before .before .before .before .before .before .before .if4 .left) _ (c .before .before .before .before .before .end .inv .0) (c .before .before .before .before .if5 .left) (c .before .before .if6 .taken), note-end _ _ (c .before .before .before .before .before .end .inv .1) _ _ (c .before .before .before .before .before .end .inv .0) _ (c .note4 .ensures))
+returns-4 c = (closed _ _ _ (c .before .before .before .before .before .before .before .before .before .before .before .before .before .before .before .before .before .close .inv .0) (c .before .before .before .before .before .before .before .before .before .before .before .before .before .before .before .before .if1 .left) (c .before .before .before .before .before .before .before .before .before .before .before .before .before .before .if2 .taken) (sym (c .before .before .before .before .before .before .before .before .before .before .byte .ensures) ∙ c .before .before .before .before .before .before .before .before .before .if3 .left) _ (c .before .before .before .before .before .end .inv .0) (c .before .before .before .before .if4 .left) (c .before .before .if5 .taken), note-end _ _ (c .before .before .before .before .before .end .inv .1) _ _ (c .before .before .before .before .before .end .inv .0) _ (c .note4 .ensures))
 
 pub find-link-spec : {M : Type 1} → statement M
 find-link-spec =
@@ -223,16 +208,16 @@ find-link-spec =
     close-less
     close-again
     note-requires-2
-    add-paren
     paren-holds
-    shared-slice-read-if4
+    add-byte
+    byte-requires
     add-target
     element-copy-out-resume-3
     element-copy-out-resume-4
     resume-requires-2
     end-holds
     note-requires-3
-    shared-slice-read-if6
+    shared-slice-read-if5
     add-j
     end-less
     end-again
@@ -240,5 +225,4 @@ find-link-spec =
     returns
     returns-2
     returns-3
-    returns-4
-    returns-5)
+    returns-4)

@@ -1,11 +1,9 @@
 -- `flush` stores the head of pending text that is not empty.
 -- Assumes nothing.
-use mathlib.Core.Path.{_≡_, refl, sym, ap, ap₂, _∙_}
-use Prim.Native.Nat.{ℕ, _+_, _-_, _<_, _≤_}
-use native.Mathlib.Omega.{arith}
+use mathlib.Core.Path.{ap, ap₂, _∙_}
+use Prim.Native.Nat.{ℕ, _-_}
 use mathlib.Core.Bool.{Bool, true, false}
-use mathlib.Core.List.{List, [], _∷_}
-use lib.ListN.{length, getD, drop, take, length-take, length-drop}
+use mathlib.Core.List.{_∷_}
 use lib.Seq.{sets}
 use Rattle.records.specs.Format.{le32}
 use Rattle.spans.specs.Turn.{map-byte}
@@ -13,11 +11,6 @@ use Rattle.spans.proofs.Made.{flush-some, head-some}
 use borrow.Author.Needs.{needs}
 use Rattle.spans.proofs.flush.Statement.{statement}
 use Rattle.spans.proofs.flush.Tie as tie
-use Rattle.spans.proofs.flush.Reads as reads
-use Rattle.spans.proofs.flush.Lts as lts
-use Rattle.spans.proofs.either.Reads as either-reads
-use Rattle.spans.proofs.map_byte.Reads as map-byte-reads
-use Rattle.spans.proofs.put_head.Reads as put-head-reads
 
 returns : tie.Need-returns
 returns c = search needs

@@ -1,11 +1,8 @@
 -- `join_label`: the pending text is ended if the label gave spans.
 -- Assumes nothing.
-use mathlib.Core.Path.{_≡_, refl, sym, ap, ap₂, _∙_}
-use Prim.Native.Nat.{ℕ, _+_, _-_, _<_, _≤_}
+use mathlib.Core.Path.{refl, sym, ap, _∙_}
+use Prim.Native.Nat.{ℕ, _+_, _-_}
 use native.Mathlib.Omega.{arith}
-use mathlib.Core.Bool.{Bool, true, false}
-use mathlib.Core.List.{List, [], _∷_}
-use lib.ListN.{length, getD, drop, take, length-take, length-drop}
 use lib.Seq.{sets}
 use Rattle.spans.specs.State.{link-by, link-head}
 use Rattle.spans.specs.declared.State.{State}
@@ -13,10 +10,6 @@ use Rattle.spans.proofs.Made.{same-state, map-of, link-some, flush-boun
 use borrow.Author.Needs.{needs}
 use Rattle.spans.proofs.join_label.Statement.{statement}
 use Rattle.spans.proofs.join_label.Tie as tie
-use Rattle.spans.proofs.join_label.Reads as reads
-use Rattle.spans.proofs.join_label.Lts as lts
-use Rattle.spans.proofs.flush.Reads as flush-reads
-use Rattle.spans.proofs.moved.Reads as moved-reads
 
 moved-requires : tie.Need-moved-requires
 moved-requires c κs = search needs

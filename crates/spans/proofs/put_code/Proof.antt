@@ -1,24 +1,13 @@
 -- `put_code` stores the record of a span of code.
 -- Assumes nothing.
-use mathlib.Core.Path.{_≡_, refl, sym, ap, ap₂, _∙_}
-use Prim.Native.Nat.{ℕ, _+_, _-_, _<_, _≤_}
-use native.Mathlib.Omega.{arith}
+use mathlib.Core.Path.{refl, ap₂, _∙_}
+use Prim.Native.Nat.{_-_}
 use mathlib.Core.Bool.{Bool, true, false}
-use mathlib.Core.List.{List, [], _∷_}
-use lib.ListN.{length, getD, drop, take, length-take, length-drop}
-use lib.Seq.{sets}
 use Rattle.spans.specs.Turn.{map-byte}
 use Rattle.spans.proofs.Made.{same-state, code-empty, code-some}
 use borrow.Author.Needs.{needs}
 use Rattle.spans.proofs.put_code.Statement.{statement}
 use Rattle.spans.proofs.put_code.Tie as tie
-use Rattle.spans.proofs.put_code.Reads as reads
-use Rattle.spans.proofs.put_code.Lts as lts
-use Rattle.records.proofs.writer.put.Reads as put-reads
-use Rattle.records.proofs.writer.put_bytes.Reads as put-bytes-reads
-use Rattle.spans.proofs.either.Reads as either-reads
-use Rattle.spans.proofs.map_byte.Reads as map-byte-reads
-use Rattle.spans.proofs.put_head.Reads as put-head-reads
 
 either-requires : tie.Need-either-requires
 either-requires c κs = search needs

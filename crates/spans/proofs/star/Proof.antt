@@ -1,22 +1,13 @@
 -- `star` makes the turn at a star.
 -- Assumes nothing.
-use mathlib.Core.Path.{_≡_, refl, sym, ap, ap₂, _∙_}
-use Prim.Native.Nat.{ℕ, _+_, _-_, _<_, _≤_}
-use native.Mathlib.Omega.{arith}
-use mathlib.Core.Bool.{Bool, true, false}
-use mathlib.Core.List.{List, [], _∷_}
-use lib.ListN.{length, getD, drop, take, length-take, length-drop}
-use lib.Seq.{sets}
+use mathlib.Core.Path.{refl, sym}
+use Prim.Native.Nat.{_+_, _-_}
 use native.Mathlib.Nat.{add-zero}
 use Rattle.spans.proofs.Marks.{star-two, star-one, star-last}
 use Rattle.spans.proofs.Made.{made-as, toggle-made}
 use borrow.Author.Needs.{needs}
 use Rattle.spans.proofs.star.Statement.{statement}
 use Rattle.spans.proofs.star.Tie as tie
-use Rattle.spans.proofs.star.Reads as reads
-use Rattle.spans.proofs.star.Lts as lts
-use Rattle.spans.proofs.flush.Reads as flush-reads
-use Rattle.spans.proofs.moved.Reads as moved-reads
 
 add-j : tie.Need-add-j
 add-j c = search needs

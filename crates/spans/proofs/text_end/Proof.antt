@@ -1,19 +1,13 @@
 -- `text_end`: the pending text, with its head where it is not empty.
 -- Assumes nothing.
-use mathlib.Core.Path.{_≡_, refl, sym, ap, ap₂, _∙_}
-use Prim.Native.Nat.{ℕ, _+_, _-_, _<_, _≤_}
+use mathlib.Core.Path.{ap}
+use Prim.Native.Nat.{_-_}
 use native.Mathlib.Omega.{arith}
-use mathlib.Core.Bool.{Bool, true, false}
-use mathlib.Core.List.{List, [], _∷_}
-use lib.ListN.{length, getD, drop, take, length-take, length-drop}
-use lib.Seq.{sets}
 use Rattle.spans.specs.State.{pend}
 use Rattle.spans.proofs.Made.{pend-some}
 use borrow.Author.Needs.{needs}
 use Rattle.spans.proofs.text_end.Statement.{statement}
 use Rattle.spans.proofs.text_end.Tie as tie
-use Rattle.spans.proofs.text_end.Reads as reads
-use Rattle.spans.proofs.text_end.Lts as lts
 
 returns : tie.Need-returns
 returns c = omega (arith, ap pend (c .if1 .taken))

@@ -1,24 +1,15 @@
 -- `tick` makes the turn at a backtick.
 -- Assumes nothing.
-use mathlib.Core.Path.{_≡_, refl, sym, ap, ap₂, _∙_}
-use Prim.Native.Nat.{ℕ, _+_, _-_, _<_, _≤_}
+use mathlib.Core.Path.{refl, sym, _∙_}
+use Prim.Native.Nat.{_+_, _-_}
 use native.Mathlib.Omega.{arith}
-use mathlib.Core.Bool.{Bool, true, false}
-use mathlib.Core.List.{List, [], _∷_}
-use lib.ListN.{length, getD, drop, take, length-take, length-drop}
-use lib.Seq.{sets}
+use lib.ListN.{drop, length-take, length-drop}
 use Rattle.spans.proofs.Search.{found-at, missed}
 use Rattle.spans.proofs.Marks.{tick-none}
 use Rattle.spans.proofs.Made.{made-as, push-made, tick-made, flush-bound}
 use borrow.Author.Needs.{needs}
 use Rattle.spans.proofs.tick.Statement.{statement}
 use Rattle.spans.proofs.tick.Tie as tie
-use Rattle.spans.proofs.tick.Reads as reads
-use Rattle.spans.proofs.tick.Lts as lts
-use Rattle.spans.proofs.find.Reads as find-reads
-use Rattle.spans.proofs.flush.Reads as flush-reads
-use Rattle.spans.proofs.push.Reads as push-reads
-use Rattle.spans.proofs.put_code.Reads as put-code-reads
 
 add-from : tie.Need-add-from
 add-from c = search needs

@@ -1,24 +1,12 @@
 -- `turn` makes the turn at any byte but `[`.
 -- Assumes nothing.
-use mathlib.Core.Path.{_≡_, refl, sym, ap, ap₂, _∙_}
-use Prim.Native.Nat.{ℕ, _+_, _-_, _<_, _≤_}
-use native.Mathlib.Omega.{arith}
-use mathlib.Core.Bool.{Bool, true, false}
-use mathlib.Core.List.{List, [], _∷_}
-use lib.ListN.{length, getD, drop, take, length-take, length-drop}
-use lib.Seq.{sets}
+use mathlib.Core.Path.{refl}
+use Prim.Native.Nat.{_-_}
 use Rattle.spans.proofs.Marks.{plain-turn}
 use Rattle.spans.proofs.Made.{made-as, push-made}
 use borrow.Author.Needs.{needs}
 use Rattle.spans.proofs.turn.Statement.{statement}
 use Rattle.spans.proofs.turn.Tie as tie
-use Rattle.spans.proofs.turn.Reads as reads
-use Rattle.spans.proofs.turn.Lts as lts
-use Rattle.spans.proofs.bang.Reads as bang-reads
-use Rattle.spans.proofs.escape.Reads as escape-reads
-use Rattle.spans.proofs.push.Reads as push-reads
-use Rattle.spans.proofs.star.Reads as star-reads
-use Rattle.spans.proofs.tick.Reads as tick-reads
 
 shared-slice-read-c : tie.Need-shared-slice-read-c
 shared-slice-read-c c = search needs
