@@ -24,6 +24,7 @@ use Rattle.records.specs.declared.reader.Head as H
 use Rattle.records.specs.declared.reader.Head.the-variants as HV
 use Rattle.records.specs.declared.reader.Whole.{Whole}
 use Rattle.records.specs.declared.reader.Whole.the-variants as W
+use Rattle.records.specs.declared.walker.Range.{Range}
 use Rattle.records.specs.declared.walker.Nth.{Nth}
 use Rattle.records.specs.declared.walker.Nth.the-variants as N
 
@@ -154,3 +155,8 @@ nth-placed s N.Bad = Unit {0}
 pub record NthIs (s : List ℕ) (at n : ℕ) (r : Nth) : Type 0 where
   pub read : span-in s at n ≡ nth-asked s r
   pub placed : nth-placed s r
+
+-- where a part of the records stands
+pub record RangeIs (s part : List ℕ) (r : Range) : Type 0 where
+  pub placed : Within s (r .start) (r .end)
+  pub holds : between s (r .start) (r .end) ≡ part

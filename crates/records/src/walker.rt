@@ -4,7 +4,7 @@ ghost use mathlib.Core.Path.{_≡_};
 ghost use Rattle.text.specs.Utf8.{encode};
 ghost use Rattle.records.specs.Answers.{block-answer, marker-answer, span-answer, text-answer};
 ghost use Rattle.records.specs.Numbers.{block-values, span-values};
-ghost use Rattle.records.specs.Readers.{NthIs};
+ghost use Rattle.records.specs.Readers.{NthIs, RangeIs};
 use crate::reader::Kind;
 use crate::reader::SpanRead;
 use crate::reader::SpansEnd;
@@ -59,9 +59,15 @@ pub fn block_at(records: &[u8], at: usize) -> BlockAnswer
     }
 }
 
-// The marker of the item at an offset; empty where there is none.
-pub fn marker_at(records: &[u8], at: usize) -> &[u8]
-    ensures { λ r. ⌜ now r ≡ encode (marker-answer (now (records .entry)) at) ⌝ }
+// Where a part of the records stands.
+pub struct Range {
+    pub start: usize,
+    pub end: usize,
+}
+
+// Where the marker of the item at an offset stands; empty where there is none.
+pub fn marker_range(records: &[u8], at: usize) -> Range
+    ensures { λ r. ⌜ RangeIs (now (records .entry)) (encode (marker-answer (now (records .entry)) at)) r ⌝ }
 {
     let Whole::At {
         kind,
@@ -70,17 +76,27 @@ pub fn marker_at(records: &[u8], at: usize) -> &[u8]
         next: _,
     } = whole_at(records, at)
     else {
-        return &records[..0];
+        return Range { start: 0, end: 0 };
     };
     let Kind::Item {
         depth: _,
-        start: from,
-        end: to,
+        start,
+        end,
     } = kind
     else {
-        return &records[..0];
+        return Range { start: 0, end: 0 };
     };
-    &records[from..to]
+    Range { start, end }
+}
+
+// The marker of the item at an offset; empty where there is none.
+pub fn marker_at(records: &[u8], at: usize) -> &[u8]
+    ensures { λ r. ⌜ now r ≡ encode (marker-answer (now (records .entry)) at) ⌝ }
+{
+    let range = marker_range(records, at);
+    let start = range.start;
+    let end = range.end;
+    &records[start..end]
 }
 
 // A span of a block, with its text's place.
@@ -163,9 +179,9 @@ pub fn span_at(records: &[u8], at: usize, n: usize) -> SpanAnswer
     }
 }
 
-// The text of a span; empty where there is none.
-pub fn text_at(records: &[u8], at: usize, n: usize) -> &[u8]
-    ensures { λ r. ⌜ now r ≡ encode (text-answer (now (records .entry)) at n) ⌝ }
+// Where the text of a span stands; empty where there is none.
+pub fn text_range(records: &[u8], at: usize, n: usize) -> Range
+    ensures { λ r. ⌜ RangeIs (now (records .entry)) (encode (text-answer (now (records .entry)) at n)) r ⌝ }
 {
     let Nth::At {
         bold: _,
@@ -175,9 +191,19 @@ pub fn text_at(records: &[u8], at: usize, n: usize) -> &[u8]
         end,
     } = nth_at(records, at, n)
     else {
-        return &records[..0];
+        return Range { start: 0, end: 0 };
     };
-    &records[start..end]
+    Range { start, end }
+}
+
+// The text of a span; empty where there is none.
+pub fn text_at(records: &[u8], at: usize, n: usize) -> &[u8]
+    ensures { λ r. ⌜ now r ≡ encode (text-answer (now (records .entry)) at n) ⌝ }
+{
+    let range = text_range(records, at, n);
+    let from = range.start;
+    let to = range.end;
+    &records[from..to]
 }
 
 // The walker: the lent records and an offset. Its functions take it apart and call those above.
