@@ -1,0 +1,50 @@
+-- What C is given for each answer: document 01's number and values, 0 where there is none.
+-- Assumes nothing.
+use Prim.Native.Nat.{ℕ, _+_, _≤_}
+use mathlib.Core.Path.{_≡_}
+use mathlib.Core.Bool.{Bool, true, false}
+use mathlib.Core.List.{List}
+use mathlib.Core.Option.{Option, none, some}
+use lib.ListN.{length, take, drop}
+use Rattle.records.specs.Answers.{Answer, at-end, refused, gives, BlockValues, Emphasis}
+use Rattle.sheet.specs.Calls as S
+use Rattle.sheet.specs.Calls.{no-utf8, no-sheet, yes-sheet}
+use Rattle.capi.specs.declared.BlockAt.{BlockAt}
+use Rattle.capi.specs.declared.SpanAt.{SpanAt}
+use Rattle.capi.specs.declared.Part.{Part}
+use Rattle.capi.specs.declared.Tested.{Tested}
+
+abbrev pub or-0 : Option ℕ → ℕ
+or-0 none = 0
+or-0 (some n) = n
+
+-- 1 a heading, which has a level; 3 an item, which has a depth; 2 a paragraph, which has neither
+abbrev pub kind : Option ℕ → Option ℕ → ℕ
+kind (some level) depth = 1
+kind none (some depth) = 3
+kind none none = 2
+
+abbrev pub block-struct : Answer BlockValues → BlockAt
+block-struct at-end = record { number = 0; kind = 0; level = 0; depth = 0; count = 0; next = 0 }
+block-struct (refused n) = record { number = n; kind = 0; level = 0; depth = 0; count = 0; next = 0 }
+block-struct (gives v) =
+    record { number = 0; kind = kind (v .level) (v .depth); level = or-0 (v .level); depth = or-0 (v .depth); count = v .count; next = v .next }
+
+abbrev pub bit : Bool → ℕ
+bit true = 1
+bit false = 0
+
+abbrev pub span-struct : Answer Emphasis → SpanAt
+span-struct at-end = record { number = 0; kind = 0; bold = 0; italic = 0; code = 0 }
+span-struct (refused n) = record { number = n; kind = 0; bold = 0; italic = 0; code = 0 }
+span-struct (gives e) = record { number = 0; kind = 1; bold = bit (e .bold); italic = bit (e .italic); code = bit (e .code) }
+
+-- the part is there, and holds these bytes
+pub record PartIs (records bytes : List ℕ) (r : Part) : Type 0 where
+  pub inside : r .start + r .length ≤ length records
+  pub holds : take (r .length) (drop (r .start) records) ≡ bytes
+
+abbrev pub sheet-struct : S.Tested → Tested
+sheet-struct no-utf8 = record { number = 1; yes = 0; bytes = 0; characters = 0 }
+sheet-struct no-sheet = record { number = 0; yes = 0; bytes = 0; characters = 0 }
+sheet-struct (yes-sheet b c) = record { number = 0; yes = 1; bytes = b; characters = c }

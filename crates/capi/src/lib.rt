@@ -1,0 +1,177 @@
+// The calls for C: numbers, and slices as a pointer and a length. include/release_notes.h says the same for a C programmer.
+ghost use mathlib.Core.Path.{_≡_};
+ghost use Rattle.text.specs.Utf8.{encode};
+ghost use Rattle.records.specs.Answers.{block-answer, marker-answer, span-answer, text-answer};
+ghost use Rattle.sheet.specs.Calls.{sheet-call};
+ghost use Rattle.capi.specs.Values.{bit, block-struct, span-struct, sheet-struct, PartIs};
+use records::walker::BlockAnswer;
+use records::walker::SpanAnswer;
+use sheet::Verdict;
+
+// A block: kind 0 is the end of the records, 1 a heading, 2 a paragraph, 3 an item. Where number is not 0, all else is 0.
+#[repr(C)]
+pub struct BlockAt {
+    pub number: u32,
+    pub kind: u32,
+    pub level: usize,
+    pub depth: usize,
+    pub count: usize,
+    pub next: usize,
+}
+
+// A span's emphasis: kind 0 is the end of the block's spans, 1 a span.
+#[repr(C)]
+pub struct SpanAt {
+    pub number: u32,
+    pub kind: u32,
+    pub bold: u32,
+    pub italic: u32,
+    pub code: u32,
+}
+
+// A part of the records.
+#[repr(C)]
+pub struct Part {
+    pub start: usize,
+    pub length: usize,
+}
+
+// The sheet test's answer: yes is 1 or 0, with both counts.
+#[repr(C)]
+pub struct Tested {
+    pub number: u32,
+    pub yes: u32,
+    pub bytes: usize,
+    pub characters: usize,
+}
+
+#[no_mangle]
+pub extern "C" fn rn_block_at(records: &[u8], at: usize) -> BlockAt
+    ensures { λ r. ⌜ r ≡ block-struct (block-answer (now (records .entry)) at) ⌝ }
+{
+    match records::walker::block_at(records, at) {
+        BlockAnswer::Heading { level, count, next } => BlockAt {
+            number: 0,
+            kind: 1,
+            level,
+            depth: 0,
+            count,
+            next,
+        },
+        BlockAnswer::Paragraph { count, next } => BlockAt {
+            number: 0,
+            kind: 2,
+            level: 0,
+            depth: 0,
+            count,
+            next,
+        },
+        BlockAnswer::Item { depth, count, next } => BlockAt {
+            number: 0,
+            kind: 3,
+            level: 0,
+            depth,
+            count,
+            next,
+        },
+        BlockAnswer::End => BlockAt {
+            number: 0,
+            kind: 0,
+            level: 0,
+            depth: 0,
+            count: 0,
+            next: 0,
+        },
+        BlockAnswer::Bad => BlockAt {
+            number: 7,
+            kind: 0,
+            level: 0,
+            depth: 0,
+            count: 0,
+            next: 0,
+        },
+    }
+}
+
+fn flag(b: bool) -> u32
+    ensures { λ r. ⌜ r ≡ bit b ⌝ }
+{
+    if b { 1 } else { 0 }
+}
+
+#[no_mangle]
+pub extern "C" fn rn_span_at(records: &[u8], at: usize, n: usize) -> SpanAt
+    ensures { λ r. ⌜ r ≡ span-struct (span-answer (now (records .entry)) at n) ⌝ }
+{
+    match records::walker::span_at(records, at, n) {
+        SpanAnswer::Span { bold, italic, code } => SpanAt {
+            number: 0,
+            kind: 1,
+            bold: flag(bold),
+            italic: flag(italic),
+            code: flag(code),
+        },
+        SpanAnswer::End => SpanAt {
+            number: 0,
+            kind: 0,
+            bold: 0,
+            italic: 0,
+            code: 0,
+        },
+        SpanAnswer::Bad => SpanAt {
+            number: 7,
+            kind: 0,
+            bold: 0,
+            italic: 0,
+            code: 0,
+        },
+    }
+}
+
+#[no_mangle]
+pub extern "C" fn rn_marker_at(records: &[u8], at: usize) -> Part
+    ensures { λ r. ⌜ PartIs (now (records .entry)) (encode (marker-answer (now (records .entry)) at)) r ⌝ }
+{
+    let range = records::walker::marker_range(records, at);
+    Part {
+        start: range.start,
+        length: range.end - range.start,
+    }
+}
+
+#[no_mangle]
+pub extern "C" fn rn_text_at(records: &[u8], at: usize, n: usize) -> Part
+    ensures { λ r. ⌜ PartIs (now (records .entry)) (encode (text-answer (now (records .entry)) at n)) r ⌝ }
+{
+    let range = records::walker::text_range(records, at, n);
+    Part {
+        start: range.start,
+        length: range.end - range.start,
+    }
+}
+
+#[no_mangle]
+pub extern "C" fn rn_sheet(page: &[u8]) -> Tested
+    ensures { λ r. ⌜ r ≡ sheet-struct (sheet-call (now (page .entry))) ⌝ }
+{
+    match sheet::sheet(page) {
+        Verdict::Yes { bytes, chars } => Tested {
+            number: 0,
+            yes: 1,
+            bytes,
+            characters: chars,
+        },
+        Verdict::No => Tested {
+            number: 0,
+            yes: 0,
+            bytes: 0,
+            characters: 0,
+        },
+        Verdict::NotUtf8 => Tested {
+            number: 1,
+            yes: 0,
+            bytes: 0,
+            characters: 0,
+        },
+    }
+}
