@@ -3,7 +3,7 @@
 use Prim.Native.Nat.{ℕ, zero, suc, _+_, _-_, _≤_, _<_, min}
 use native.Mathlib.Omega.{arith}
 use mathlib.Core.Path.{_≡_, refl, sym, _∙_, ap, subst}
-use mathlib.Core.Bool.{Bool, true, false, _&&_}
+use mathlib.Core.Bool.{Bool, true, false}
 use mathlib.Core.Option.{Option, none, some}
 use mathlib.Core.Logic.{⊎-elim}
 use mathlib.Core.List.{List, [], _∷_, _++_, append-nil, append-assoc, map}
@@ -15,22 +15,22 @@ use Rattle.text.specs.Chars.{within}
 use Rattle.text.specs.Utf8.{utf8, code-at}
 use Rattle.text.proofs.Tests.{within-true, decide, and-true}
 use Rattle.text.proofs.Laws.{turn-is, advance-end, utf8-ascii}
-use Rattle.sheet.specs.Reading.{guard, _<|>_, strip, many}
+use Rattle.sheet.specs.Reading.{_<|>_, strip, many}
 use Rattle.sheet.specs.Tree.{Run, Mark, ul, ol, Items, end, leaf, node, Item, alone, with, items, Block, heading, para, list}
 use Rattle.sheet.specs.Grammar.{closes, closes-h}
 use Rattle.sheet.specs.Reader.{Answer, nl?, line, item, then-nl, some-items, marked, list-of, read-list, digit, headed, read-heading, read-para, block}
-use Rattle.sheet.specs.Written.{Row, rows-from, rows, written-runs, written-row, joined, written-block}
+use Rattle.sheet.specs.Written.{Row, rows-from, rows, written-runs, written-row, joined}
 use Rattle.sheet.specs.Weight.{weight, alike, added}
-use Rattle.sheet.specs.Says.{from, Past, Says}
+use Rattle.sheet.specs.Says.{from, Says}
 use Rattle.sheet.specs.Forms.{led-rows, list-form, block-form}
 use Rattle.sheet.specs.Sound.{none-some, bind-inv, guard-inv, alt-inv}
 use Rattle.sheet.specs.declared.count.Count.{Count}
 use Rattle.sheet.specs.declared.count.Read.{Read}
 use Rattle.sheet.specs.declared.count.Read.the-variants.{At, No}
-use Rattle.sheet.proofs.TestTags.{ascii, Stands}
+use Rattle.sheet.proofs.TestTags.{ascii}
 use Rattle.sheet.proofs.TestCount.{weight-append, weight-ascii}
 use Rattle.sheet.proofs.TestMany.{Shrinks, strip-shrinks}
-use Rattle.sheet.proofs.TestSays.{Got, says-no, says-at, answers, refuses}
+use Rattle.sheet.proofs.TestSays.{Got, answers, refuses}
 use Rattle.sheet.proofs.TestItems.{line-shrinks, read-list-shrinks}
 
 -- ---- what is read leaves less

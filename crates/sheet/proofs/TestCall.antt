@@ -3,7 +3,7 @@
 use Prim.Native.Nat.{ℕ, _≤_, _<_}
 use native.Mathlib.Omega.{arith}
 use mathlib.Core.Path.{_≡_, refl, sym, _∙_, ap}
-use mathlib.Core.Bool.{Bool, true, _&&_}
+use mathlib.Core.Bool.{true}
 use mathlib.Core.Option.{Option, none, some}
 use mathlib.Core.Logic.{_↔_}
 use mathlib.Core.List.{List}
@@ -20,7 +20,7 @@ use Rattle.sheet.specs.Reader.{read-page}
 use Rattle.sheet.specs.Written.{written}
 use Rattle.sheet.specs.Sound.{bind-inv, guard-inv, page-sound}
 use Rattle.sheet.specs.Complete.{page-complete}
-use Rattle.sheet.specs.Calls.{small, sheet, Tested, no-utf8, no-sheet, yes-sheet, sheet-call}
+use Rattle.sheet.specs.Calls.{small, sheet, no-utf8, no-sheet, yes-sheet, sheet-call}
 
 -- a page is a sheet: its characters, which are scalar values, are a page of the grammar, and the written form of its tree is small
 pub record IsSheet (page : List ℕ) (bytes chars : ℕ) : Type 0 where

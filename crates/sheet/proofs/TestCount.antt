@@ -1,14 +1,14 @@
 -- Counts of texts put together.
 -- Assumes nothing.
-use Prim.Native.Nat.{ℕ, zero, suc, _+_, _*_, _≤_, _<_, min}
+use Prim.Native.Nat.{ℕ}
 use native.Mathlib.Omega.{arith}
-use mathlib.Core.Path.{_≡_, refl, sym, _∙_, ap}
-use mathlib.Core.Bool.{Bool, true, false, _&&_}
+use mathlib.Core.Path.{_≡_, refl, ap}
+use mathlib.Core.Bool.{true}
 use mathlib.Core.List.{List, [], _∷_, _++_}
 use borrow.Author.Tests.{ltb-true}
 use lib.Dec.{ltb}
 use lib.ListN.{length, length-append}
-use Rattle.text.specs.Utf8.{size, utf8}
+use Rattle.text.specs.Utf8.{size}
 use Rattle.text.proofs.Tests.{and-true}
 use Rattle.text.proofs.Laws.{size-append, utf8-ascii}
 use Rattle.sheet.specs.declared.count.Count.{Count}

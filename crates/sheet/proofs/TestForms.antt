@@ -1,19 +1,17 @@
 -- Counts of the written forms.
 -- Assumes nothing.
-use Prim.Native.Nat.{ℕ, zero, suc, _+_, _-_, _*_, _/_, _%_, _≤_, _<_, min}
+use Prim.Native.Nat.{ℕ, zero, suc, _+_, _*_, _/_, _%_, _≤_, _<_, min}
 use native.Mathlib.Omega.{arith}
-use mathlib.Core.Path.{_≡_, refl, sym, _∙_, ap, subst}
-use mathlib.Core.Bool.{Bool, true, false, cond, _&&_}
-use mathlib.Core.Logic.{⊎-elim}
-use mathlib.Core.List.{List, [], _∷_, _++_, append-nil, append-assoc, map}
+use mathlib.Core.Path.{_≡_, refl, sym, _∙_, ap}
+use mathlib.Core.Bool.{Bool, true, false, cond}
+use mathlib.Core.List.{List, [], _∷_, _++_, append-nil, append-assoc}
 use borrow.Author.Tests.{lt-ltb, le-ltb, ltb-true, ltb-false}
 use lib.Dec.{ltb}
 use lib.ListN.{length, length-append}
 use Rattle.text.specs.Words.{str, repeat}
-use Rattle.text.specs.Utf8.{size}
 use Rattle.text.specs.Decimal.{digits, decimal}
-use Rattle.text.proofs.Tests.{decide, on, and-true}
-use Rattle.sheet.specs.Tree.{Run, Mark, Items, end, leaf, node, Item, alone, with, cons, items}
+use Rattle.text.proofs.Tests.{and-true}
+use Rattle.sheet.specs.Tree.{Run, Mark, Items, Item, alone, with, items}
 use Rattle.sheet.specs.Written.{Row, item, place, rows-from, lead, written-runs, written-row}
 use Rattle.sheet.specs.Weight.{weight, alike, added}
 use Rattle.sheet.specs.Forms.{led-rows, item-form, list-form, row-lead}

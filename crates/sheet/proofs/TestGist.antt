@@ -1,22 +1,22 @@
 -- What the code keeps of a text, a character at a time.
 -- Assumes nothing.
-use Prim.Native.Nat.{ℕ, zero, suc, _+_, _≤_, _<_, min}
+use Prim.Native.Nat.{ℕ, _+_, _≤_}
 use native.Mathlib.Omega.{arith}
 use mathlib.Core.Path.{_≡_, refl, sym, _∙_, ap}
 use mathlib.Core.Bool.{Bool, true, false, not, cond, _&&_, _||_}
-use mathlib.Core.List.{List, [], _∷_, _++_, append-nil}
+use mathlib.Core.List.{List, [], _∷_, _++_}
 use lib.Dec.{eqb}
 use lib.ListN.{length}
 use Rattle.text.specs.Words.{if_then_else_, str}
 use Rattle.text.specs.Utf8.{size, utf8}
-use Rattle.text.proofs.Tests.{and-assoc, and-true-right, on}
+use Rattle.text.proofs.Tests.{and-assoc, and-true-right}
 use Rattle.text.proofs.Laws.{utf8-size, utf8-ascii}
 use Rattle.html.specs.State.{special}
-use Rattle.sheet.specs.Grammar.{singles, first-is, last-is, none-of, any, no-blank}
+use Rattle.sheet.specs.Grammar.{singles, first-is, none-of, any}
 use Rattle.sheet.specs.Written.{escaped}
 use Rattle.sheet.specs.declared.count.Count.{Count}
 use Rattle.sheet.specs.declared.line.Gist.{Gist}
-use Rattle.sheet.specs.Weight.{weight, alike, added}
+use Rattle.sheet.specs.Weight.{weight}
 use Rattle.sheet.specs.Facts.{first-of, last-of, gist, pushed, Scanned}
 use Rattle.sheet.specs.Reader.{char}
 use Rattle.sheet.specs.Says.{from}

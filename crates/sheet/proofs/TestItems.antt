@@ -1,34 +1,32 @@
 -- Items and lists: what the reader's answers are made of, and the loop over a list's items.
 -- Assumes nothing.
-use Prim.Native.Nat.{ℕ, zero, suc, _+_, _-_, _≤_, _<_, min}
+use Prim.Native.Nat.{ℕ, zero, suc, _+_, _-_, _≤_, _<_}
 use native.Mathlib.Omega.{arith}
-use native.Mathlib.Nat.{le-refl}
 use mathlib.Core.Path.{_≡_, refl, sym, _∙_, ap, subst}
-use mathlib.Core.Bool.{Bool, true, false, _&&_}
+use mathlib.Core.Bool.{Bool, true, false}
 use mathlib.Core.Option.{Option, none, some}
 use mathlib.Core.Logic.{⊎-elim}
 use mathlib.Core.List.{List, [], _∷_, _++_}
 use lib.ListN.{length, length-append}
 use Rattle.text.specs.Words.{str, _>>=_, case}
 use Rattle.text.specs.Utf8.{size}
-use Rattle.sheet.specs.Reading.{guard, _<|>_, strip, many}
-use Rattle.sheet.specs.Tree.{Run, Mark, ul, ol, Items, end, Item, alone, with, items}
+use Rattle.sheet.specs.Reading.{_<|>_, strip, many}
+use Rattle.sheet.specs.Tree.{Run, Mark, ul, ol, Items, Item, alone, with, items}
 use Rattle.sheet.specs.Grammar.{opens, closes, neat}
 use Rattle.sheet.specs.Reader.{Answer, nl?, one-run, line, then-nl, with-list, item, some-items, marked, list-of, read-list}
 use Rattle.sheet.specs.Written.{place, rows-from}
 use Rattle.sheet.specs.Weight.{weight, alike, added}
 use Rattle.sheet.specs.Says.{from, Says, Tagged, Skipped}
-use Rattle.sheet.specs.Facts.{filled}
 use Rattle.sheet.specs.Forms.{led-rows, item-form, list-form, mark-of, Begun}
 use Rattle.sheet.specs.Sound.{none-some, bind-inv, guard-inv, alt-inv}
 use Rattle.sheet.specs.declared.count.Count.{Count}
-use Rattle.sheet.specs.declared.count.Read.the-variants.{At, No}
+use Rattle.sheet.specs.declared.count.Read.the-variants.{At}
 use Rattle.sheet.specs.declared.list.Opening.{Opening}
 use Rattle.sheet.specs.declared.list.Opening.the-variants as O
-use Rattle.sheet.proofs.TestTags.{Stands, is-tag, no-tag}
+use Rattle.sheet.proofs.TestTags.{Stands, is-tag}
 use Rattle.sheet.proofs.TestCount.{weight-append}
 use Rattle.sheet.proofs.TestMany.{Shrinks, every, many-every, many-shrinks, strip-shrinks, nl-shrinks, then-nl-shrinks, Read-to, to-none, to-more, to-stop}
-use Rattle.sheet.proofs.TestSays.{Got, answers, refuses}
+use Rattle.sheet.proofs.TestSays.{Got, answers}
 use Rattle.sheet.proofs.TestRuns.{run-shrinks}
 use Rattle.sheet.proofs.TestForms.{rows-snoc}
 

@@ -1,26 +1,25 @@
 -- The runs of a line, one by one, and what the code keeps of them.
 -- Assumes nothing.
-use Prim.Native.Nat.{ℕ, zero, suc, _+_, _*_, _≤_, _<_, min}
+use Prim.Native.Nat.{ℕ, _*_, _≤_, _<_}
 use native.Mathlib.Omega.{arith}
-use mathlib.Core.Path.{_≡_, refl, sym, _∙_, ap, subst}
-use mathlib.Core.Bool.{Bool, true, false, not, cond, _&&_, _||_}
-use mathlib.Core.Option.{Option, none, some}
+use mathlib.Core.Path.{_≡_, refl, sym, _∙_, ap}
+use mathlib.Core.Bool.{Bool, true, false, not, cond, _&&_}
+use mathlib.Core.Option.{none}
 use mathlib.Core.List.{List, [], _∷_, _++_, append-nil, append-assoc}
 use lib.Dec.{eqb}
 use lib.ListN.{length, length-append}
 use Rattle.text.specs.Chars.{is-letter}
 use Rattle.text.specs.Utf8.{size}
-use Rattle.text.proofs.Tests.{and-assoc, and-true-right, and-true}
+use Rattle.text.proofs.Tests.{and-assoc, and-true-right}
 use Rattle.text.proofs.Laws.{size-append}
-use Rattle.sheet.specs.Reading.{guard, many}
 use Rattle.sheet.specs.Tree as T
 use Rattle.sheet.specs.Tree.{Run, run}
-use Rattle.sheet.specs.Grammar.{touch, first-is, last-is, no-blank, apart, first-letter, last-no-blank, neat}
-use Rattle.sheet.specs.Reader.{Answer, one-run, line}
+use Rattle.sheet.specs.Grammar.{touch, apart, first-letter, last-no-blank, neat}
+use Rattle.sheet.specs.Reader.{one-run, line}
 use Rattle.sheet.specs.Written.{escaped, sign, written-run, written-runs}
 use Rattle.sheet.specs.Weight.{weight, alike, added}
 use Rattle.sheet.specs.Says.{from, Says}
-use Rattle.sheet.specs.Facts.{first-of, last-of, gist, kind-of, coded, last-kind, filled, runs-of, joined-by, neat-of}
+use Rattle.sheet.specs.Facts.{first-of, last-of, gist, coded, last-kind, filled, runs-of, joined-by, neat-of}
 use Rattle.sheet.specs.declared.count.Count.{Count}
 use Rattle.sheet.specs.declared.count.Read.the-variants.{At, No}
 use Rattle.sheet.specs.declared.line.Kind.{Kind}

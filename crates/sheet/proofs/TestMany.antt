@@ -1,17 +1,16 @@
 -- A reader used again and again: how often it may be tried does not matter, if each time it leaves less.
 -- Assumes nothing.
-use Prim.Native.Nat.{ℕ, zero, suc, _+_, _-_, _≤_, _<_}
+use Prim.Native.Nat.{ℕ, zero, suc, _+_, _≤_, _<_}
 use native.Mathlib.Omega.{arith}
 use native.Mathlib.Nat.{le-refl}
 use mathlib.Core.Path.{_≡_, refl, sym, _∙_, ap}
-use mathlib.Core.Bool.{Bool, true, false}
 use mathlib.Core.Option.{Option, none, some}
-use mathlib.Core.List.{List, [], _∷_, _++_, append-nil, append-assoc}
+use mathlib.Core.List.{List, [], _∷_, _++_, append-nil}
 use lib.Dec.{eqb}
 use lib.ListN.{length}
 use lib.Seq.{append-snoc}
-use Rattle.text.specs.Words.{case, _>>=_}
-use Rattle.sheet.specs.Reading.{guard, strip, many}
+use Rattle.text.specs.Words.{case}
+use Rattle.sheet.specs.Reading.{strip, many}
 use Rattle.sheet.specs.Reader.{Answer, nl?, then-nl}
 use Rattle.sheet.specs.Sound.{none-some, bind-inv, guard-inv}
 

@@ -1,30 +1,29 @@
 -- The page: the loop over its blocks, and the verdict.
 -- Assumes nothing.
-use Prim.Native.Nat.{ℕ, zero, suc, _+_, _-_, _≤_, _<_, min}
+use Prim.Native.Nat.{ℕ, _-_, _≤_, _<_, min}
 use native.Mathlib.Omega.{arith}
-use mathlib.Core.Path.{_≡_, refl, sym, _∙_, ap, subst}
-use mathlib.Core.Bool.{Bool, true, false, _&&_}
-use mathlib.Core.Option.{Option, none, some}
+use mathlib.Core.Path.{_≡_, refl, sym, _∙_, ap}
+use mathlib.Core.Bool.{true, false}
+use mathlib.Core.Option.{none, some}
 use mathlib.Core.Logic.{⊎-elim}
-use mathlib.Core.List.{List, [], _∷_, _++_, append-nil, append-assoc, map}
+use mathlib.Core.List.{List, [], _∷_, _++_, append-nil, append-assoc}
 use borrow.Author.Tests.{lt-ltb, le-ltb, le-leb, lt-leb, ltb-true, ltb-false, leb-true, leb-false}
 use lib.Dec.{ltb, leb}
-use lib.ListN.{length, length-append}
-use Rattle.text.specs.Words.{str, _>>=_, case}
-use Rattle.text.specs.Utf8.{size, is-utf8, decode}
+use lib.ListN.{length}
+use Rattle.text.specs.Words.{str, case}
+use Rattle.text.specs.Utf8.{size, is-utf8}
 use Rattle.text.proofs.Tests.{decide}
 use Rattle.text.proofs.Laws.{decode-true, decode-false, turn-is, advance-end, size-append}
 use Rattle.sheet.specs.Reading.{guard, many}
 use Rattle.sheet.specs.Tree.{Block}
 use Rattle.sheet.specs.Reader.{nl?, then-nl, block, at-end, read-page}
-use Rattle.sheet.specs.Written.{joined, written-block, written}
+use Rattle.sheet.specs.Written.{joined, written}
 use Rattle.sheet.specs.Weight.{weight, alike, added}
 use Rattle.sheet.specs.Says.{from, Skipped}
 use Rattle.sheet.specs.Forms.{block-form}
 use Rattle.sheet.specs.Pages.{judged}
 use Rattle.sheet.specs.Calls.{small, sheet, Tested, no-utf8, no-sheet, yes-sheet, sheet-call, answer}
 use Rattle.sheet.specs.declared.count.Count.{Count}
-use Rattle.sheet.specs.declared.Verdict.the-variants.{Yes, No}
 use Rattle.sheet.proofs.TestCount.{weight-append, size-ascii}
 use Rattle.sheet.proofs.TestMany.{every, many-every, nl-shrinks, then-nl-shrinks, Read-to, to-none, to-more, to-stop}
 use Rattle.sheet.proofs.TestSays.{Got}

@@ -1,20 +1,20 @@
 -- Runs, and the runs of a line.
 -- Assumes nothing.
-use Prim.Native.Nat.{ℕ, zero, suc, _+_, _*_, _≤_, _<_, min}
+use Prim.Native.Nat.{ℕ, _+_, _≤_, _<_}
 use native.Mathlib.Omega.{arith}
 use mathlib.Core.Path.{_≡_, refl, sym, _∙_, ap, subst}
-use mathlib.Core.Bool.{Bool, true, false, not, cond, _&&_, _||_}
-use mathlib.Core.Option.{Option, none, some}
-use mathlib.Core.List.{List, [], _∷_, _++_, append-nil, append-assoc}
+use mathlib.Core.Bool.{Bool, true, false, not, _&&_, _||_}
+use mathlib.Core.Option.{none, some}
+use mathlib.Core.List.{List, [], _∷_}
 use mathlib.Core.Logic.{⊎-elim}
 use borrow.Author.Tests.{ltb-true, ltb-false}
 use lib.Dec.{eqb, ltb}
-use lib.ListN.{length, drop}
-use Rattle.text.specs.Words.{str, _>>=_}
+use lib.ListN.{length}
+use Rattle.text.specs.Words.{str}
 use Rattle.text.specs.Chars.{is-letter}
 use Rattle.text.proofs.Tests.{decide}
 use Rattle.text.proofs.Laws.{advance-end}
-use Rattle.sheet.specs.Reading.{guard, _<|>_, strip, many}
+use Rattle.sheet.specs.Reading.{strip, many}
 use Rattle.sheet.specs.Tree as T
 use Rattle.sheet.specs.Tree.{Run, run}
 use Rattle.sheet.specs.Grammar.{touch, before, after, first-is, last-is, no-blank, singles, fits}

@@ -1,15 +1,14 @@
 -- From an answer of the code to the reader's, and back.
 -- Assumes nothing.
-use Prim.Native.Nat.{ℕ, zero, suc, _+_, _≤_, _<_, min}
+use Prim.Native.Nat.{ℕ, _≤_, _<_}
 use native.Mathlib.Omega.{arith}
 use mathlib.Core.Path.{_≡_, refl, sym, _∙_, ap, subst}
-use mathlib.Core.Option.{Option, none, some}
-use mathlib.Core.List.{List, [], _∷_, _++_}
-use lib.ListN.{length, drop}
-use Rattle.sheet.specs.Reading.{_<|>_}
+use mathlib.Core.Option.{none, some}
+use mathlib.Core.List.{List}
+use lib.ListN.{length}
 use Rattle.sheet.specs.Reader.{Answer}
 use Rattle.sheet.specs.Weight.{weight}
-use Rattle.sheet.specs.Says.{from, Past, Says}
+use Rattle.sheet.specs.Says.{from, Says}
 use Rattle.sheet.specs.declared.count.Count.{Count}
 use Rattle.sheet.specs.declared.count.Read.{Read}
 use Rattle.sheet.specs.declared.count.Read.the-variants.{At, No}

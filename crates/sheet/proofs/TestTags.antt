@@ -1,22 +1,22 @@
 -- Taking a tag off the bytes is taking it off the characters, since a tag is ASCII.
 -- Assumes nothing.
-use Prim.Native.Nat.{ℕ, zero, suc, _+_, _-_, _≤_, _<_}
+use Prim.Native.Nat.{ℕ, _+_, _≤_, _<_}
 use native.Mathlib.Omega.{arith}
-use mathlib.Core.Path.{_≡_, refl, sym, _∙_, ap, subst}
+use mathlib.Core.Path.{_≡_, refl, sym, _∙_, subst}
 use mathlib.Core.Bool.{Bool, true, false, _&&_}
-use mathlib.Core.Option.{Option, none, some}
-use mathlib.Core.Logic.{_⊎_, ⊎-elim}
-use mathlib.Core.List.{List, [], _∷_, _++_}
+use mathlib.Core.Option.{none, some}
+use mathlib.Core.Logic.{⊎-elim}
+use mathlib.Core.List.{List, [], _∷_}
 use borrow.Author.Tests.{eqb-true, eq-eqb, ne-eqb, ltb-true, ltb-false}
 use lib.Dec.{eqb, ltb}
-use lib.ListN.{length, drop, getD, length-drop}
-use lib.Seq.{drop-cons, drop-drop}
+use lib.ListN.{length, drop, length-drop}
+use lib.Seq.{drop-drop}
 use Rattle.text.specs.Words.{starts-with}
 use Rattle.text.specs.Utf8.{chars}
 use Rattle.text.proofs.Tests.{decide, and-true}
 use Rattle.text.proofs.Laws.{chars-nil, advance-end}
 use Rattle.text.proofs.AsciiLaws.{chars-ascii, chars-high}
-use Rattle.sheet.specs.Reading.{guard, strip}
+use Rattle.sheet.specs.Reading.{strip}
 use Rattle.sheet.specs.Says.{from, Tagged}
 
 abbrev pub ascii : List ℕ → Bool

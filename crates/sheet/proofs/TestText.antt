@@ -1,25 +1,25 @@
 -- The characters of a text, one by one, and what the code keeps of them.
 -- Assumes nothing.
-use Prim.Native.Nat.{ℕ, zero, suc, _+_, _-_, _≤_, _<_, min}
+use Prim.Native.Nat.{ℕ, _+_, _≤_, _<_}
 use native.Mathlib.Omega.{arith}
 use mathlib.Core.Path.{_≡_, refl, sym, _∙_, ap, subst}
-use mathlib.Core.Bool.{Bool, true, false, not, _&&_}
-use mathlib.Core.Option.{Option, none, some}
+use mathlib.Core.Bool.{true, false}
+use mathlib.Core.Option.{none, some}
 use mathlib.Core.Logic.{⊎-elim}
 use mathlib.Core.List.{List, [], _∷_, _++_, append-nil, append-assoc}
-use lib.ListN.{length, drop}
-use Rattle.text.specs.Words.{str, _>>=_}
+use lib.ListN.{length}
+use Rattle.text.specs.Words.{str}
 use Rattle.text.specs.Utf8.{utf8, code-at}
 use Rattle.text.proofs.Laws.{turn-is, advance-end}
-use Rattle.sheet.specs.Reading.{guard, _<|>_, strip}
-use Rattle.sheet.specs.Grammar.{shown, concat}
+use Rattle.sheet.specs.Reading.{strip}
+use Rattle.sheet.specs.Grammar.{shown}
 use Rattle.sheet.specs.Reader.{Answer, own, means, char, text}
-use Rattle.sheet.specs.Says.{from, Past}
+use Rattle.sheet.specs.Says.{from}
 use Rattle.sheet.specs.Facts.{Spelt}
 use Rattle.sheet.specs.Sound.{none-some, bind-inv, guard-inv, alt-inv}
 use Rattle.sheet.specs.declared.line.Glyph.{Glyph}
 use Rattle.sheet.specs.declared.line.Glyph.the-variants as G
-use Rattle.sheet.proofs.TestMany.{Shrinks, every, every-more, every-stop, strip-shrinks}
+use Rattle.sheet.proofs.TestMany.{Shrinks, every-more, every-stop, strip-shrinks}
 
 -- ---- the character at an offset
 module _ (page : List ℕ) (at : ℕ) where

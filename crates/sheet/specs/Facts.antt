@@ -3,7 +3,7 @@
 use Prim.Native.Nat.{ℕ, _+_, _*_, _≤_}
 use mathlib.Core.Path.{_≡_}
 use mathlib.Core.Bool.{Bool, true, false, not, _&&_}
-use mathlib.Core.Option.{Option, none, some}
+use mathlib.Core.Option.{none, some}
 use mathlib.Core.List.{List, [], _∷_}
 use lib.Dec.{eqb}
 use lib.ListN.{length}
@@ -12,7 +12,7 @@ use Rattle.text.specs.Chars.{is-letter}
 use Rattle.html.specs.State.{special}
 use Rattle.sheet.specs.Tree as T
 use Rattle.sheet.specs.Tree.{Run, run}
-use Rattle.sheet.specs.Grammar.{singles, first-is, none-of, any, touch, apart, first-letter, last-no-blank, before, after}
+use Rattle.sheet.specs.Grammar.{singles, first-is, none-of, any, touch, apart, first-letter, last-no-blank, before}
 use Rattle.sheet.specs.Reader.{Answer, kind, text}
 use Rattle.sheet.specs.Written.{escaped, sign, written-runs}
 use Rattle.sheet.specs.Weight.{weight, alike, added}

@@ -1,6 +1,6 @@
 -- The code's last step: the counts of all blocks, each with two bytes 10 before it, and the limits of a sheet.
 -- Assumes nothing.
-use Prim.Native.Nat.{ℕ, _-_}
+use Prim.Native.Nat.{_-_}
 use mathlib.Core.Bool.{_&&_}
 use lib.Dec.{ltb, leb}
 use Rattle.text.specs.Words.{if_then_else_}

@@ -3,8 +3,8 @@
 use Prim.Native.Nat.{ℕ, _+_, _≤_, _<_}
 use mathlib.Core.Path.{_≡_}
 use mathlib.Core.Bool.{Bool, true, false}
-use mathlib.Core.Option.{Option, none, some}
-use mathlib.Core.List.{List, [], _∷_}
+use mathlib.Core.Option.{none, some}
+use mathlib.Core.List.{List}
 use lib.ListN.{length, drop}
 use Rattle.text.specs.Utf8.{chars}
 use Rattle.sheet.specs.declared.count.Read.{Read}

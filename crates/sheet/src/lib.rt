@@ -17,7 +17,7 @@ use count::add;
 use count::ascii;
 use line::line;
 use line::nl;
-use list::list;
+use list::outermost;
 
 pub enum Verdict {
     // A sheet, and how many bytes and characters its written form has.
@@ -87,7 +87,7 @@ fn paragraph(page: &[u8], at: usize) -> Read
     }
 }
 
-// A block at `at`; at most 8 lists are open together.
+// A block at `at`.
 fn block(page: &[u8], at: usize) -> Read
     ensures { λ r. ⌜ Says block-form (now (page .entry)) at (block (from (now (page .entry)) at)) r ⌝ }
 {
@@ -97,7 +97,7 @@ fn block(page: &[u8], at: usize) -> Read
     if let Read::At { next, count } = paragraph(page, at) {
         return Read::At { next, count };
     }
-    let Read::At { next, count } = list(page, at, 8) else {
+    let Read::At { next, count } = outermost(page, at) else {
         return Read::No;
     };
     Read::At {

@@ -1,8 +1,7 @@
 // A line of a sheet: the characters of its text, the text of a run, a run, the runs.
 ghost use mathlib.Core.Path.{_≡_};
-ghost use mathlib.Core.Bool.{_||_, _&&_};
 ghost use mathlib.Core.List.{[], _∷_};
-ghost use Prim.Native.Nat.{_+_, _≤_};
+ghost use Prim.Native.Nat.{_+_};
 ghost use lib.ListN.{length};
 ghost use Rattle.text.specs.Chars.{is-letter};
 ghost use Rattle.text.specs.Words.{if_then_else_};
@@ -12,7 +11,7 @@ ghost use Rattle.sheet.specs.Reader.{char, kind, one-run, line};
 ghost use Rattle.sheet.specs.Written.{escaped, sign, written-runs};
 ghost use Rattle.sheet.specs.Weight.{weight};
 ghost use Rattle.sheet.specs.Says.{from, Says, Tagged, Skipped};
-ghost use Rattle.sheet.specs.Facts.{Spelt, gist, pushed, Scanned, kind-of, is-plain, has-em, suits, Opened, Ran, runs-of, joined-by, neat-of};
+ghost use Rattle.sheet.specs.Facts.{Spelt, gist, pushed, Scanned, kind-of, is-plain, has-em, suits, Opened, Ran, runs-of, joined-by};
 use crate::count::Count;
 use crate::count::Read;
 use crate::count::add;

@@ -116,7 +116,7 @@ fn item(page: &[u8], at: usize, levels: usize, place: usize) -> Read
 }
 
 // A list at `at`, in which at most `levels` lists are open together, itself among them.
-pub fn list(page: &[u8], at: usize, levels: usize) -> Read
+fn list(page: &[u8], at: usize, levels: usize) -> Read
     requires { ⌜ levels ≤ 8 ⌝ }
     ensures { λ r. ⌜ Says (list-form (8 - levels)) (now (page .entry)) at (read-list levels (from (now (page .entry)) at)) r ⌝ }
 {
@@ -148,4 +148,11 @@ pub fn list(page: &[u8], at: usize, levels: usize) -> Read
         };
     }
     Read::No
+}
+
+// A list that is a block, at `at`: at most 8 lists are open together.
+pub fn outermost(page: &[u8], at: usize) -> Read
+    ensures { λ r. ⌜ Says (list-form 0) (now (page .entry)) at (read-list 8 (from (now (page .entry)) at)) r ⌝ }
+{
+    list(page, at, 8)
 }

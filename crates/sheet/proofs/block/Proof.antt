@@ -1,22 +1,13 @@
 -- `sheet::block` meets its contract.
 -- Assumes nothing.
-use Prim.Native.Nat.{ℕ}
-use native.Mathlib.Omega.{arith}
 use Rattle.sheet.specs.Reader.{read-heading, read-para, read-list}
 use Rattle.sheet.specs.Says.{from}
 use Rattle.sheet.specs.Forms.{block-form, list-form}
-use Rattle.sheet.proofs.TestSays.{Got, says-no, says-at}
+use Rattle.sheet.proofs.TestSays.{says-no, says-at}
 use Rattle.sheet.proofs.TestBlocks.{block-1, block-2, block-3, block-4}
 use borrow.Author.Needs.{needs}
 use Rattle.sheet.proofs.block.Statement.{statement}
 use Rattle.sheet.proofs.block.Tie as tie
-use Rattle.sheet.proofs.block.Reads as reads
-use Rattle.sheet.proofs.block.Lts as lts
-use Rattle.sheet.proofs.count.add.Reads as add-reads
-use Rattle.sheet.proofs.count.ascii.Reads as ascii-reads
-use Rattle.sheet.proofs.heading.Reads as heading-reads
-use Rattle.sheet.proofs.list.list.Reads as list-reads
-use Rattle.sheet.proofs.paragraph.Reads as paragraph-reads
 
 heading-requires : tie.Need-heading-requires
 heading-requires c κs = search needs
@@ -25,7 +16,10 @@ enum-known-next : tie.Need-enum-known-next
 enum-known-next c = search needs
 
 returns : tie.Need-returns
-returns c = let a = c .before .before .before .before .before .args in block-1 (a .page .now) (a .at) (says-at block-form (a .page .now) (a .at) (read-heading (from (a .page .now) (a .at))) (c .before .before .before .heading .ensures) (c .before .next .given .1))
+returns c =
+    let a = c .before .before .before .before .before .args in
+    block-1 (a .page .now) (a .at)
+    (says-at block-form (a .page .now) (a .at) (read-heading (from (a .page .now) (a .at))) (c .before .before .before .heading .ensures) (c .before .next .given .1))
 
 enum-told : tie.Need-enum-told
 enum-told c = search needs
@@ -37,13 +31,17 @@ enum-known-next-2 : tie.Need-enum-known-next-2
 enum-known-next-2 c = search needs
 
 returns-2 : tie.Need-returns-2
-returns-2 c = let a = c .before .before .before .before .before .before .before .before .args in block-2 (a .page .now) (a .at) (says-no block-form (a .page .now) (a .at) (read-heading (from (a .page .now) (a .at))) (c .before .before .before .before .before .before .heading .ensures) (c .before .before .before .before .enum-told .given .1)) (says-at block-form (a .page .now) (a .at) (read-para (from (a .page .now) (a .at))) (c .before .before .before .paragraph .ensures) (c .before .next2 .given .1))
+returns-2 c =
+    let a = c .before .before .before .before .before .before .before .before .args in
+    block-2 (a .page .now) (a .at)
+    (says-no block-form (a .page .now) (a .at) (read-heading (from (a .page .now) (a .at))) (c .before .before .before .before .before .before .heading .ensures) (c .before .before .before .before .enum-told .given .1))
+    (says-at block-form (a .page .now) (a .at) (read-para (from (a .page .now) (a .at))) (c .before .before .before .paragraph .ensures) (c .before .next2 .given .1))
 
 enum-told-2 : tie.Need-enum-told-2
 enum-told-2 c = search needs
 
-list-requires : tie.Need-list-requires
-list-requires c κs = omega arith
+outermost-requires : tie.Need-outermost-requires
+outermost-requires c κs = search needs
 
 enum-known-next-3 : tie.Need-enum-known-next-3
 enum-known-next-3 c = search needs
@@ -52,7 +50,12 @@ enum-told-3 : tie.Need-enum-told-3
 enum-told-3 c = search needs
 
 returns-3 : tie.Need-returns-3
-returns-3 c = let a = c .before .before .before .before .before .before .before .before .before .before .args in block-3 (a .page .now) (a .at) (says-no block-form (a .page .now) (a .at) (read-heading (from (a .page .now) (a .at))) (c .before .before .before .before .before .before .before .before .heading .ensures) (c .before .before .before .before .before .before .enum-told .given .1)) (says-no block-form (a .page .now) (a .at) (read-para (from (a .page .now) (a .at))) (c .before .before .before .before .before .paragraph .ensures) (c .before .before .before .enum-told2 .given .1)) (says-no (list-form 0) (a .page .now) (a .at) (read-list 8 (from (a .page .now) (a .at))) (c .before .before .list .ensures) (c .enum-told3 .given .1))
+returns-3 c =
+    let a = c .before .before .before .before .before .before .before .before .before .before .args in
+    block-3 (a .page .now) (a .at)
+    (says-no block-form (a .page .now) (a .at) (read-heading (from (a .page .now) (a .at))) (c .before .before .before .before .before .before .before .before .heading .ensures) (c .before .before .before .before .before .before .enum-told .given .1))
+    (says-no block-form (a .page .now) (a .at) (read-para (from (a .page .now) (a .at))) (c .before .before .before .before .before .paragraph .ensures) (c .before .before .before .enum-told2 .given .1))
+    (says-no (list-form 0) (a .page .now) (a .at) (read-list 8 (from (a .page .now) (a .at))) (c .before .before .outermost .ensures) (c .enum-told3 .given .1))
 
 ascii-requires : tie.Need-ascii-requires
 ascii-requires c κs = search needs
@@ -61,7 +64,13 @@ add-requires : tie.Need-add-requires
 add-requires c κs = search needs
 
 returns-4 : tie.Need-returns-4
-returns-4 c = let a = c .before .before .before .before .before .before .before .before .before .before .before .before .before .args in block-4 (a .page .now) (a .at) (says-no block-form (a .page .now) (a .at) (read-heading (from (a .page .now) (a .at))) (c .before .before .before .before .before .before .before .before .before .before .before .heading .ensures) (c .before .before .before .before .before .before .before .before .before .enum-told .given .1)) (says-no block-form (a .page .now) (a .at) (read-para (from (a .page .now) (a .at))) (c .before .before .before .before .before .before .before .before .paragraph .ensures) (c .before .before .before .before .before .before .enum-told2 .given .1)) (says-at (list-form 0) (a .page .now) (a .at) (read-list 8 (from (a .page .now) (a .at))) (c .before .before .before .before .before .list .ensures) (c .before .before .before .next3 .given .1)) (c .before .ascii .ensures) (c .add .ensures)
+returns-4 c =
+    let a = c .before .before .before .before .before .before .before .before .before .before .before .before .before .args in
+    block-4 (a .page .now) (a .at)
+    (says-no block-form (a .page .now) (a .at) (read-heading (from (a .page .now) (a .at))) (c .before .before .before .before .before .before .before .before .before .before .before .heading .ensures) (c .before .before .before .before .before .before .before .before .before .enum-told .given .1))
+    (says-no block-form (a .page .now) (a .at) (read-para (from (a .page .now) (a .at))) (c .before .before .before .before .before .before .before .before .paragraph .ensures) (c .before .before .before .before .before .before .enum-told2 .given .1))
+    (says-at (list-form 0) (a .page .now) (a .at) (read-list 8 (from (a .page .now) (a .at))) (c .before .before .before .before .before .outermost .ensures) (c .before .before .before .next3 .given .1))
+    (c .before .ascii .ensures) (c .add .ensures)
 
 pub block-spec : {M : Type 1} → statement M
 block-spec =
@@ -75,7 +84,7 @@ block-spec =
     enum-known-next-2
     returns-2
     enum-told-2
-    list-requires
+    outermost-requires
     enum-known-next-3
     enum-told-3
     returns-3

@@ -1,14 +1,14 @@
 -- `sheet::headed` meets its contract.
 -- Assumes nothing.
-use mathlib.Core.Path.{_≡_, refl, sym, _∙_, ap}
-use Prim.Native.Nat.{ℕ, _+_, _-_, _≤_, _<_}
+use mathlib.Core.Path.{refl}
+use Prim.Native.Nat.{_+_}
 use native.Mathlib.Omega.{arith}
 use borrow.Author.Tests.{not-true, not-false}
 use Rattle.text.specs.Words.{str}
 use Rattle.sheet.specs.Says.{from}
 use Rattle.sheet.proofs.TestTags.{stands, missing}
-use Rattle.sheet.proofs.TestSays.{Got, says-no, says-at, answers, refuses}
-use mathlib.Core.List.{List, [], _∷_}
+use Rattle.sheet.proofs.TestSays.{says-no, says-at, answers, refuses}
+use mathlib.Core.List.{[], _∷_}
 use Rattle.sheet.specs.Reader.{line, headed}
 use Rattle.sheet.specs.Written.{written-runs}
 use Rattle.sheet.specs.Forms.{block-form}
@@ -16,13 +16,6 @@ use Rattle.sheet.proofs.TestBlocks.{headed-1, headed-2, headed-3, heade
 use borrow.Author.Needs.{needs}
 use Rattle.sheet.proofs.headed.Statement.{statement}
 use Rattle.sheet.proofs.headed.Tie as tie
-use Rattle.sheet.proofs.headed.Reads as reads
-use Rattle.sheet.proofs.headed.Lts as lts
-use Rattle.sheet.proofs.count.add.Reads as add-reads
-use Rattle.sheet.proofs.count.ascii.Reads as ascii-reads
-use Rattle.sheet.proofs.level.Reads as level-reads
-use Rattle.sheet.proofs.line.line.Reads as line-reads
-use Rattle.text.proofs.starts_with.Reads as starts-with-reads
 
 slice-aggregate-starts-with : tie.Need-slice-aggregate-starts-with
 slice-aggregate-starts-with c = search needs
@@ -31,10 +24,16 @@ starts-with-requires : tie.Need-starts-with-requires
 starts-with-requires c κs = search needs
 
 returns : tie.Need-returns
-returns c = let a = c .before .before .before .before .args in refuses block-form (a .page .now) (a .at) (headed (a .n) (from (a .page .now) (a .at))) (headed-1 (a .n) (from (a .page .now) (a .at)) (missing (str ">") (a .page .now) (a .at) refl (c .before .starts-with .ensures) (not-true (c .before .starts-with .result) (c .if1 .taken))))
+returns c =
+    let a = c .before .before .before .before .args in
+    refuses block-form (a .page .now) (a .at) (headed (a .n) (from (a .page .now) (a .at)))
+    (headed-1 (a .n) (from (a .page .now) (a .at)) (missing (str ">") (a .page .now) (a .at) refl (c .before .starts-with .ensures) (not-true (c .before .starts-with .result) (c .if1 .taken))))
 
 add-line : tie.Need-add-line
-add-line c = let a = c .before .before .before .before .args in let o = (stands (str ">") (a .page .now) (a .at) refl (c .before .starts-with .ensures) (not-false (c .before .starts-with .result) (c .if1 .left))) in omega (arith, o .inside (omega arith))
+add-line c =
+    let a = c .before .before .before .before .args in
+    let o = (stands (str ">") (a .page .now) (a .at) refl (c .before .starts-with .ensures) (not-false (c .before .starts-with .result) (c .if1 .left))) in
+    omega (arith, o .inside (omega arith))
 
 line-requires : tie.Need-line-requires
 line-requires c κs = search needs
@@ -46,7 +45,11 @@ enum-told : tie.Need-enum-told
 enum-told c = search needs
 
 returns-2 : tie.Need-returns-2
-returns-2 c = let a = c .before .before .before .before .before .before .before .args in let o = (stands (str ">") (a .page .now) (a .at) refl (c .before .before .before .before .starts-with .ensures) (not-false (c .before .before .before .before .starts-with .result) (c .before .before .before .if1 .left))) in refuses block-form (a .page .now) (a .at) (headed (a .n) (from (a .page .now) (a .at))) (headed-2 (a .n) (from (a .page .now) (a .at)) _ (o .off) (says-no written-runs (a .page .now) (a .at + 1) (line (from (a .page .now) (a .at + 1))) (c .before .before .line .ensures) (c .enum-told .given .1)))
+returns-2 c =
+    let a = c .before .before .before .before .before .before .before .args in
+    let o = (stands (str ">") (a .page .now) (a .at) refl (c .before .before .before .before .starts-with .ensures) (not-false (c .before .before .before .before .starts-with .result) (c .before .before .before .if1 .left))) in
+    refuses block-form (a .page .now) (a .at) (headed (a .n) (from (a .page .now) (a .at)))
+    (headed-2 (a .n) (from (a .page .now) (a .at)) _ (o .off) (says-no written-runs (a .page .now) (a .at + 1) (line (from (a .page .now) (a .at + 1))) (c .before .before .line .ensures) (c .enum-told .given .1)))
 
 add-t14 : tie.Need-add-t14
 add-t14 c = omega (arith, c .before .before .before .before .before .before .before .before .pre)
@@ -58,10 +61,18 @@ starts-with-requires-2 : tie.Need-starts-with-requires-2
 starts-with-requires-2 c κs = search needs
 
 returns-3 : tie.Need-returns-3
-returns-3 c = let a = c .before .before .before .before .before .before .before .before .before .before .before .args in let o = (stands (str ">") (a .page .now) (a .at) refl (c .before .before .before .before .before .before .before .before .starts-with .ensures) (not-false (c .before .before .before .before .before .before .before .before .starts-with .result) (c .before .before .before .before .before .before .before .if1 .left))) in let w = says-at written-runs (a .page .now) (a .at + 1) (line (from (a .page .now) (a .at + 1))) (c .before .before .before .before .before .before .line .ensures) (c .before .before .before .before .next .given .1) in refuses block-form (a .page .now) (a .at) (headed (a .n) (from (a .page .now) (a .at))) (headed-3 (a .n) (from (a .page .now) (a .at)) _ (o .off) (w .what) _ (w .is) (missing (60 ∷ 47 ∷ 104 ∷ (48 + a .n) ∷ 62 ∷ []) (a .page .now) (c .before .before .before .before .next .given .0 .0) (close-ascii (a .n) (c .before .before .before .before .before .before .before .before .before .before .before .pre)) (c .before .starts-with2 .ensures) (not-true (c .before .starts-with2 .result) (c .if2 .taken))))
+returns-3 c =
+    let a = c .before .before .before .before .before .before .before .before .before .before .before .args in
+    let o = (stands (str ">") (a .page .now) (a .at) refl (c .before .before .before .before .before .before .before .before .starts-with .ensures) (not-false (c .before .before .before .before .before .before .before .before .starts-with .result) (c .before .before .before .before .before .before .before .if1 .left))) in
+    let w = says-at written-runs (a .page .now) (a .at + 1) (line (from (a .page .now) (a .at + 1))) (c .before .before .before .before .before .before .line .ensures) (c .before .before .before .before .next .given .1) in
+    refuses block-form (a .page .now) (a .at) (headed (a .n) (from (a .page .now) (a .at)))
+    (headed-3 (a .n) (from (a .page .now) (a .at)) _ (o .off) (w .what) _ (w .is) (missing (60 ∷ 47 ∷ 104 ∷ (48 + a .n) ∷ 62 ∷ []) (a .page .now) (c .before .before .before .before .next .given .0 .0) (close-ascii (a .n) (c .before .before .before .before .before .before .before .before .before .before .before .pre)) (c .before .starts-with2 .ensures) (not-true (c .before .starts-with2 .result) (c .if2 .taken))))
 
 add-t13 : tie.Need-add-t13
-add-t13 c = let a = c .before .before .before .before .before .before .before .before .before .before .before .args in let g = (stands (60 ∷ 47 ∷ 104 ∷ (48 + a .n) ∷ 62 ∷ []) (a .page .now) (c .before .before .before .before .next .given .0 .0) (close-ascii (a .n) (c .before .before .before .before .before .before .before .before .before .before .before .pre)) (c .before .starts-with2 .ensures) (not-false (c .before .starts-with2 .result) (c .if2 .left))) in omega (arith, g .inside (omega arith))
+add-t13 c =
+    let a = c .before .before .before .before .before .before .before .before .before .before .before .args in
+    let g = (stands (60 ∷ 47 ∷ 104 ∷ (48 + a .n) ∷ 62 ∷ []) (a .page .now) (c .before .before .before .before .next .given .0 .0) (close-ascii (a .n) (c .before .before .before .before .before .before .before .before .before .before .before .pre)) (c .before .starts-with2 .ensures) (not-false (c .before .starts-with2 .result) (c .if2 .left))) in
+    omega (arith, g .inside (omega arith))
 
 level-requires : tie.Need-level-requires
 level-requires c κs = search needs
@@ -76,7 +87,16 @@ add-requires : tie.Need-add-requires
 add-requires c κs = search needs
 
 returns-4 : tie.Need-returns-4
-returns-4 c = let a = c .before .before .before .before .before .before .before .before .before .before .before .before .before .before .args in let o = (stands (str ">") (a .page .now) (a .at) refl (c .before .before .before .before .before .before .before .before .before .before .before .starts-with .ensures) (not-false (c .before .before .before .before .before .before .before .before .before .before .before .starts-with .result) (c .before .before .before .before .before .before .before .before .before .before .if1 .left))) in let w = says-at written-runs (a .page .now) (a .at + 1) (line (from (a .page .now) (a .at + 1))) (c .before .before .before .before .before .before .before .before .before .line .ensures) (c .before .before .before .before .before .before .before .next .given .1) in let g = (stands (60 ∷ 47 ∷ 104 ∷ (48 + a .n) ∷ 62 ∷ []) (a .page .now) (c .before .before .before .before .before .before .before .next .given .0 .0) (close-ascii (a .n) (c .before .before .before .before .before .before .before .before .before .before .before .before .before .before .pre)) (c .before .before .before .before .starts-with2 .ensures) (not-false (c .before .before .before .before .starts-with2 .result) (c .before .before .before .if2 .left))) in let i = g .inside (omega arith) in answers block-form (a .page .now) (a .at) (headed (a .n) (from (a .page .now) (a .at))) (headed-4 (a .n) (from (a .page .now) (a .at)) _ (o .off) (w .what) _ (w .is) (g .off)) (heading-weight (a .n) (w .what) (c .before .before .level .ensures) (c .before .ascii .ensures) (w .count) (c .add .ensures)) (omega (arith, w .later)) i
+returns-4 c =
+    let a = c .before .before .before .before .before .before .before .before .before .before .before .before .before .before .args in
+    let o = (stands (str ">") (a .page .now) (a .at) refl (c .before .before .before .before .before .before .before .before .before .before .before .starts-with .ensures) (not-false (c .before .before .before .before .before .before .before .before .before .before .before .starts-with .result) (c .before .before .before .before .before .before .before .before .before .before .if1 .left))) in
+    let w = says-at written-runs (a .page .now) (a .at + 1) (line (from (a .page .now) (a .at + 1))) (c .before .before .before .before .before .before .before .before .before .line .ensures) (c .before .before .before .before .before .before .before .next .given .1) in
+    let g = (stands (60 ∷ 47 ∷ 104 ∷ (48 + a .n) ∷ 62 ∷ []) (a .page .now) (c .before .before .before .before .before .before .before .next .given .0 .0) (close-ascii (a .n) (c .before .before .before .before .before .before .before .before .before .before .before .before .before .before .pre)) (c .before .before .before .before .starts-with2 .ensures) (not-false (c .before .before .before .before .starts-with2 .result) (c .before .before .before .if2 .left))) in
+    let i = g .inside (omega arith) in
+    answers block-form (a .page .now) (a .at) (headed (a .n) (from (a .page .now) (a .at)))
+    (headed-4 (a .n) (from (a .page .now) (a .at)) _ (o .off) (w .what) _ (w .is) (g .off))
+    (heading-weight (a .n) (w .what) (c .before .before .level .ensures) (c .before .ascii .ensures) (w .count) (c .add .ensures))
+    (omega (arith, w .later)) i
 
 pub headed-spec : {M : Type 1} → statement M
 headed-spec =

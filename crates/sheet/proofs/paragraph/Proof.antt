@@ -1,13 +1,13 @@
 -- `sheet::paragraph` meets its contract.
 -- Assumes nothing.
-use mathlib.Core.Path.{_≡_, refl, sym, _∙_, ap}
-use Prim.Native.Nat.{ℕ, _+_, _-_, _≤_, _<_}
+use mathlib.Core.Path.{refl}
+use Prim.Native.Nat.{_+_}
 use native.Mathlib.Omega.{arith}
 use borrow.Author.Tests.{not-true, not-false}
 use Rattle.text.specs.Words.{str}
 use Rattle.sheet.specs.Says.{from}
 use Rattle.sheet.proofs.TestTags.{stands, missing}
-use Rattle.sheet.proofs.TestSays.{Got, says-no, says-at, answers, refuses}
+use Rattle.sheet.proofs.TestSays.{says-no, says-at, answers, refuses}
 use Rattle.sheet.specs.Reader.{line, read-para}
 use Rattle.sheet.specs.Written.{written-runs}
 use Rattle.sheet.specs.Forms.{block-form}
@@ -15,12 +15,6 @@ use Rattle.sheet.proofs.TestBlocks.{para-1, para-2, para-3, para-4, par
 use borrow.Author.Needs.{needs}
 use Rattle.sheet.proofs.paragraph.Statement.{statement}
 use Rattle.sheet.proofs.paragraph.Tie as tie
-use Rattle.sheet.proofs.paragraph.Reads as reads
-use Rattle.sheet.proofs.paragraph.Lts as lts
-use Rattle.sheet.proofs.count.add.Reads as add-reads
-use Rattle.sheet.proofs.count.ascii.Reads as ascii-reads
-use Rattle.sheet.proofs.line.line.Reads as line-reads
-use Rattle.text.proofs.starts_with.Reads as starts-with-reads
 
 slice-aggregate-starts-with : tie.Need-slice-aggregate-starts-with
 slice-aggregate-starts-with c = search needs
@@ -29,10 +23,16 @@ starts-with-requires : tie.Need-starts-with-requires
 starts-with-requires c κs = search needs
 
 returns : tie.Need-returns
-returns c = let a = c .before .before .before .before .args in refuses block-form (a .page .now) (a .at) (read-para (from (a .page .now) (a .at))) (para-1 (from (a .page .now) (a .at)) (missing (str "<p>") (a .page .now) (a .at) refl (c .before .starts-with .ensures) (not-true (c .before .starts-with .result) (c .if1 .taken))))
+returns c =
+    let a = c .before .before .before .before .args in
+    refuses block-form (a .page .now) (a .at) (read-para (from (a .page .now) (a .at)))
+    (para-1 (from (a .page .now) (a .at)) (missing (str "<p>") (a .page .now) (a .at) refl (c .before .starts-with .ensures) (not-true (c .before .starts-with .result) (c .if1 .taken))))
 
 add-line : tie.Need-add-line
-add-line c = let a = c .before .before .before .before .args in let o = (stands (str "<p>") (a .page .now) (a .at) refl (c .before .starts-with .ensures) (not-false (c .before .starts-with .result) (c .if1 .left))) in omega (arith, o .inside (omega arith))
+add-line c =
+    let a = c .before .before .before .before .args in
+    let o = (stands (str "<p>") (a .page .now) (a .at) refl (c .before .starts-with .ensures) (not-false (c .before .starts-with .result) (c .if1 .left))) in
+    omega (arith, o .inside (omega arith))
 
 line-requires : tie.Need-line-requires
 line-requires c κs = search needs
@@ -44,7 +44,11 @@ enum-told : tie.Need-enum-told
 enum-told c = search needs
 
 returns-2 : tie.Need-returns-2
-returns-2 c = let a = c .before .before .before .before .before .before .before .args in let o = (stands (str "<p>") (a .page .now) (a .at) refl (c .before .before .before .before .starts-with .ensures) (not-false (c .before .before .before .before .starts-with .result) (c .before .before .before .if1 .left))) in refuses block-form (a .page .now) (a .at) (read-para (from (a .page .now) (a .at))) (para-2 (from (a .page .now) (a .at)) _ (o .off) (says-no written-runs (a .page .now) (a .at + 3) (line (from (a .page .now) (a .at + 3))) (c .before .before .line .ensures) (c .enum-told .given .1)))
+returns-2 c =
+    let a = c .before .before .before .before .before .before .before .args in
+    let o = (stands (str "<p>") (a .page .now) (a .at) refl (c .before .before .before .before .starts-with .ensures) (not-false (c .before .before .before .before .starts-with .result) (c .before .before .before .if1 .left))) in
+    refuses block-form (a .page .now) (a .at) (read-para (from (a .page .now) (a .at)))
+    (para-2 (from (a .page .now) (a .at)) _ (o .off) (says-no written-runs (a .page .now) (a .at + 3) (line (from (a .page .now) (a .at + 3))) (c .before .before .line .ensures) (c .enum-told .given .1)))
 
 slice-aggregate-starts-with-2 : tie.Need-slice-aggregate-starts-with-2
 slice-aggregate-starts-with-2 c = search needs
@@ -53,10 +57,18 @@ starts-with-requires-2 : tie.Need-starts-with-requires-2
 starts-with-requires-2 c κs = search needs
 
 returns-3 : tie.Need-returns-3
-returns-3 c = let a = c .before .before .before .before .before .before .before .before .before .before .before .args in let o = (stands (str "<p>") (a .page .now) (a .at) refl (c .before .before .before .before .before .before .before .before .starts-with .ensures) (not-false (c .before .before .before .before .before .before .before .before .starts-with .result) (c .before .before .before .before .before .before .before .if1 .left))) in let w = says-at written-runs (a .page .now) (a .at + 3) (line (from (a .page .now) (a .at + 3))) (c .before .before .before .before .before .before .line .ensures) (c .before .before .before .before .next .given .1) in refuses block-form (a .page .now) (a .at) (read-para (from (a .page .now) (a .at))) (para-3 (from (a .page .now) (a .at)) _ (o .off) (w .what) _ (w .is) (missing (str "</p>") (a .page .now) (c .before .before .before .before .next .given .0 .0) refl (c .before .starts-with2 .ensures) (not-true (c .before .starts-with2 .result) (c .if2 .taken))))
+returns-3 c =
+    let a = c .before .before .before .before .before .before .before .before .before .before .before .args in
+    let o = (stands (str "<p>") (a .page .now) (a .at) refl (c .before .before .before .before .before .before .before .before .starts-with .ensures) (not-false (c .before .before .before .before .before .before .before .before .starts-with .result) (c .before .before .before .before .before .before .before .if1 .left))) in
+    let w = says-at written-runs (a .page .now) (a .at + 3) (line (from (a .page .now) (a .at + 3))) (c .before .before .before .before .before .before .line .ensures) (c .before .before .before .before .next .given .1) in
+    refuses block-form (a .page .now) (a .at) (read-para (from (a .page .now) (a .at)))
+    (para-3 (from (a .page .now) (a .at)) _ (o .off) (w .what) _ (w .is) (missing (str "</p>") (a .page .now) (c .before .before .before .before .next .given .0 .0) refl (c .before .starts-with2 .ensures) (not-true (c .before .starts-with2 .result) (c .if2 .taken))))
 
 add-t12 : tie.Need-add-t12
-add-t12 c = let a = c .before .before .before .before .before .before .before .before .before .before .before .args in let g = (stands (str "</p>") (a .page .now) (c .before .before .before .before .next .given .0 .0) refl (c .before .starts-with2 .ensures) (not-false (c .before .starts-with2 .result) (c .if2 .left))) in omega (arith, g .inside (omega arith))
+add-t12 c =
+    let a = c .before .before .before .before .before .before .before .before .before .before .before .args in
+    let g = (stands (str "</p>") (a .page .now) (c .before .before .before .before .next .given .0 .0) refl (c .before .starts-with2 .ensures) (not-false (c .before .starts-with2 .result) (c .if2 .left))) in
+    omega (arith, g .inside (omega arith))
 
 ascii-requires : tie.Need-ascii-requires
 ascii-requires c κs = search needs
@@ -65,7 +77,15 @@ add-requires : tie.Need-add-requires
 add-requires c κs = search needs
 
 returns-4 : tie.Need-returns-4
-returns-4 c = let a = c .before .before .before .before .before .before .before .before .before .before .before .before .before .args in let o = (stands (str "<p>") (a .page .now) (a .at) refl (c .before .before .before .before .before .before .before .before .before .before .starts-with .ensures) (not-false (c .before .before .before .before .before .before .before .before .before .before .starts-with .result) (c .before .before .before .before .before .before .before .before .before .if1 .left))) in let w = says-at written-runs (a .page .now) (a .at + 3) (line (from (a .page .now) (a .at + 3))) (c .before .before .before .before .before .before .before .before .line .ensures) (c .before .before .before .before .before .before .next .given .1) in let g = (stands (str "</p>") (a .page .now) (c .before .before .before .before .before .before .next .given .0 .0) refl (c .before .before .before .starts-with2 .ensures) (not-false (c .before .before .before .starts-with2 .result) (c .before .before .if2 .left))) in let i = g .inside (omega arith) in answers block-form (a .page .now) (a .at) (read-para (from (a .page .now) (a .at))) (para-4 (from (a .page .now) (a .at)) _ (o .off) (w .what) _ (w .is) (g .off)) (para-weight (w .what) (c .before .ascii .ensures) (w .count) (c .add .ensures)) (omega (arith, w .later)) i
+returns-4 c =
+    let a = c .before .before .before .before .before .before .before .before .before .before .before .before .before .args in
+    let o = (stands (str "<p>") (a .page .now) (a .at) refl (c .before .before .before .before .before .before .before .before .before .before .starts-with .ensures) (not-false (c .before .before .before .before .before .before .before .before .before .before .starts-with .result) (c .before .before .before .before .before .before .before .before .before .if1 .left))) in
+    let w = says-at written-runs (a .page .now) (a .at + 3) (line (from (a .page .now) (a .at + 3))) (c .before .before .before .before .before .before .before .before .line .ensures) (c .before .before .before .before .before .before .next .given .1) in
+    let g = (stands (str "</p>") (a .page .now) (c .before .before .before .before .before .before .next .given .0 .0) refl (c .before .before .before .starts-with2 .ensures) (not-false (c .before .before .before .starts-with2 .result) (c .before .before .if2 .left))) in
+    let i = g .inside (omega arith) in
+    answers block-form (a .page .now) (a .at) (read-para (from (a .page .now) (a .at)))
+    (para-4 (from (a .page .now) (a .at)) _ (o .off) (w .what) _ (w .is) (g .off))
+    (para-weight (w .what) (c .before .ascii .ensures) (w .count) (c .add .ensures)) (omega (arith, w .later)) i
 
 pub paragraph-spec : {M : Type 1} → statement M
 paragraph-spec =

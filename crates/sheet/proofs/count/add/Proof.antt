@@ -3,9 +3,6 @@
 use borrow.Author.Needs.{needs}
 use Rattle.sheet.proofs.count.add.Statement.{statement}
 use Rattle.sheet.proofs.count.add.Tie as tie
-use Rattle.sheet.proofs.count.add.Reads as reads
-use Rattle.sheet.proofs.count.add.Lts as lts
-use Rattle.sheet.proofs.count.sum.Reads as sum-reads
 
 sum-requires : tie.Need-sum-requires
 sum-requires c κs = search needs

@@ -1,20 +1,19 @@
 -- `sheet::count::ascii` meets its contract.
 -- Assumes nothing.
 use mathlib.Core.Path.{_≡_}
-use Prim.Native.Nat.{ℕ, _+_, min}
+use Prim.Native.Nat.{min}
 use native.Mathlib.Omega.{arith}
 use borrow.Author.Needs.{needs}
 use Rattle.sheet.proofs.count.ascii.Statement.{statement}
 use Rattle.sheet.proofs.count.ascii.Tie as tie
-use Rattle.sheet.proofs.count.ascii.Reads as reads
-use Rattle.sheet.proofs.count.ascii.Lts as lts
-use Rattle.sheet.proofs.count.sum.Reads as sum-reads
 
 sum-requires : tie.Need-sum-requires
 sum-requires c κs = search needs
 
 returns : tie.Need-returns
-returns c = let e : c .sum .result ≡ min (c .before .args .n) 20000 = omega arith in cc
+returns c =
+    let e : c .sum .result ≡ min (c .before .args .n) 20000 = omega arith in
+    cc
 
 pub ascii-spec : {M : Type 1} → statement M
 ascii-spec = tie.close (tie.spec sum-requires returns)

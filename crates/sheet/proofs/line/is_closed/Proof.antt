@@ -1,16 +1,13 @@
 -- `sheet::line::is_closed` meets its contract.
 -- Assumes nothing.
 use mathlib.Core.Path.{_≡_, refl}
-use Prim.Native.Nat.{ℕ, _+_}
+use Prim.Native.Nat.{_+_}
 use native.Mathlib.Omega.{arith}
 use Rattle.text.specs.Words.{str}
 use Rattle.sheet.proofs.TestTags.{tagged}
 use borrow.Author.Needs.{needs}
 use Rattle.sheet.proofs.line.is_closed.Statement.{statement}
 use Rattle.sheet.proofs.line.is_closed.Tie as tie
-use Rattle.sheet.proofs.line.is_closed.Reads as reads
-use Rattle.sheet.proofs.line.is_closed.Lts as lts
-use Rattle.text.proofs.starts_with.Reads as starts-with-reads
 
 enum-told : tie.Need-enum-told
 enum-told c = search needs
@@ -52,19 +49,30 @@ starts-with-requires-4 : tie.Need-starts-with-requires-4
 starts-with-requires-4 c κs = search needs
 
 returns : tie.Need-returns
-returns c = let a = c .before .before .before .args in let z : a .at + 0 ≡ a .at = omega arith in rw (c .enum-told .given .1) (rw z, λ h. omega arith)
+returns c =
+    let a = c .before .before .before .args in
+    let z : a .at + 0 ≡ a .at = omega arith in
+    rw (c .enum-told .given .1) (rw z, λ h. omega arith)
 
 returns-2 : tie.Need-returns-2
-returns-2 c = let a = c .before .before .before .before .before .args in rw (c .before .before .enum-told2 .given .1) (tagged (str "</strong>") (a .page .now) (a .at) refl (c .starts-with .ensures))
+returns-2 c =
+    let a = c .before .before .before .before .before .args in
+    rw (c .before .before .enum-told2 .given .1) (tagged (str "</strong>") (a .page .now) (a .at) refl (c .starts-with .ensures))
 
 returns-3 : tie.Need-returns-3
-returns-3 c = let a = c .before .before .before .before .before .args in rw (c .before .before .enum-told3 .given .1) (tagged (str "</em>") (a .page .now) (a .at) refl (c .starts-with2 .ensures))
+returns-3 c =
+    let a = c .before .before .before .before .before .args in
+    rw (c .before .before .enum-told3 .given .1) (tagged (str "</em>") (a .page .now) (a .at) refl (c .starts-with2 .ensures))
 
 returns-4 : tie.Need-returns-4
-returns-4 c = let a = c .before .before .before .before .before .args in rw (c .before .before .enum-told4 .given .1) (tagged (str "</em></strong>") (a .page .now) (a .at) refl (c .starts-with3 .ensures))
+returns-4 c =
+    let a = c .before .before .before .before .before .args in
+    rw (c .before .before .enum-told4 .given .1) (tagged (str "</em></strong>") (a .page .now) (a .at) refl (c .starts-with3 .ensures))
 
 returns-5 : tie.Need-returns-5
-returns-5 c = let a = c .before .before .before .before .before .args in rw (c .before .before .enum-told5 .given .1) (tagged (str "</code>") (a .page .now) (a .at) refl (c .starts-with4 .ensures))
+returns-5 c =
+    let a = c .before .before .before .before .before .args in
+    rw (c .before .before .enum-told5 .given .1) (tagged (str "</code>") (a .page .now) (a .at) refl (c .starts-with4 .ensures))
 
 pub is-closed-spec : {M : Type 1} → statement M
 is-closed-spec =

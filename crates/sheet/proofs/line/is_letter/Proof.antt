@@ -1,12 +1,8 @@
 -- `sheet::line::is_letter` meets its contract.
 -- Assumes nothing.
-use mathlib.Core.Path.{refl}
 use borrow.Author.Needs.{needs}
 use Rattle.sheet.proofs.line.is_letter.Statement.{statement}
 use Rattle.sheet.proofs.line.is_letter.Tie as tie
-use Rattle.sheet.proofs.line.is_letter.Reads as reads
-use Rattle.sheet.proofs.line.is_letter.Lts as lts
-use Rattle.text.proofs.within.Reads as within-reads
 
 within-requires : tie.Need-within-requires
 within-requires c κs = search needs

@@ -4,10 +4,6 @@ use Rattle.sheet.specs.Grammar.{shown}
 use borrow.Author.Needs.{needs}
 use Rattle.sheet.proofs.line.is_shown.Statement.{statement}
 use Rattle.sheet.proofs.line.is_shown.Tie as tie
-use Rattle.sheet.proofs.line.is_shown.Reads as reads
-use Rattle.sheet.proofs.line.is_shown.Lts as lts
-use Rattle.text.proofs.is_control.Reads as is-control-reads
-use Rattle.text.proofs.is_space.Reads as is-space-reads
 
 is-control-requires : tie.Need-is-control-requires
 is-control-requires c κs = search needs

@@ -7,16 +7,14 @@ use Rattle.sheet.proofs.TestGist.{five}
 -- `sheet::line::is_special` meets its contract.
 -- Assumes nothing.
 use Rattle.html.specs.State.{special}
-use mathlib.Core.Path.{refl}
-use mathlib.Core.Path.{_≡_}
 use Rattle.sheet.proofs.line.is_special.Statement.{statement}
 use Rattle.sheet.proofs.line.is_special.Tie as tie
-use Rattle.sheet.proofs.line.is_special.Reads as reads
-use Rattle.sheet.proofs.line.is_special.Lts as lts
 
 returns : tie.Need-returns
 unfolding special
-returns c = let x = c .args .c in five (eqb x 92) (eqb x 42) (eqb x 96) (eqb x 91) (eqb x 33)
+returns c =
+    let x = c .args .c in
+    five (eqb x 92) (eqb x 42) (eqb x 96) (eqb x 91) (eqb x 33)
 
 pub is-special-spec : {M : Type 1} → statement M
 is-special-spec = tie.close (tie.spec returns)

@@ -1,28 +1,19 @@
 -- `sheet::line::joined` meets its contract.
 -- Assumes nothing.
-use mathlib.Core.Path.{_≡_, ap, _∙_}
 use native.Mathlib.Omega.{arith}
-use Prim.Native.Nat.{_*_}
-use Rattle.sheet.specs.Weight.{alike}
 use Rattle.sheet.specs.Facts.{kind-of}
 use Rattle.sheet.proofs.TestLine.{sign-short}
 use borrow.Author.Needs.{needs}
 use Rattle.sheet.proofs.line.joined.Statement.{statement}
 use Rattle.sheet.proofs.line.joined.Tie as tie
-use Rattle.sheet.proofs.line.joined.Reads as reads
-use Rattle.sheet.proofs.line.joined.Lts as lts
-use Rattle.sheet.proofs.count.add.Reads as add-reads
-use Rattle.sheet.proofs.count.ascii.Reads as ascii-reads
-use Rattle.sheet.proofs.line.choose.Reads as choose-reads
-use Rattle.sheet.proofs.line.is_letter.Reads as is-letter-reads
-use Rattle.sheet.proofs.line.sign.Reads as sign-reads
-use Rattle.sheet.proofs.line.touches.Reads as touches-reads
 
 sign-requires : tie.Need-sign-requires
 sign-requires c κs = search needs
 
 mul-ascii : tie.Need-mul-ascii
-mul-ascii c = let a = c .before .before .before .args in omega (arith, c .sign .ensures, sign-short (kind-of (a .k)))
+mul-ascii c =
+    let a = c .before .before .before .args in
+    omega (arith, c .sign .ensures, sign-short (kind-of (a .k)))
 
 ascii-requires : tie.Need-ascii-requires
 ascii-requires c κs = search needs
@@ -43,7 +34,9 @@ choose-requires : tie.Need-choose-requires
 choose-requires c κs = search needs
 
 returns : tie.Need-returns
-returns c = let a = c .before .before .before .before .before .before .before .before .before .before .before .args in rw (c .before .before .before .before .before .add2 .ensures, c .before .before .before .before .before .before .add .ensures, c .before .before .before .before .before .before .before .ascii .ensures, c .before .before .before .before .before .before .before .before .sign .ensures, c .before .before .before .before .touches .ensures, c .before .choose .ensures, c .before .before .is-letter .ensures)
+returns c =
+    let a = c .before .before .before .before .before .before .before .before .before .before .before .args in
+    rw (c .before .before .before .before .before .add2 .ensures, c .before .before .before .before .before .before .add .ensures, c .before .before .before .before .before .before .before .ascii .ensures, c .before .before .before .before .before .before .before .before .sign .ensures, c .before .before .before .before .touches .ensures, c .before .choose .ensures, c .before .before .is-letter .ensures)
 
 pub joined-spec : {M : Type 1} → statement M
 joined-spec =

@@ -3,8 +3,6 @@
 use Rattle.sheet.proofs.TestLine.{runs-nil}
 use Rattle.sheet.proofs.line.no_runs.Statement.{statement}
 use Rattle.sheet.proofs.line.no_runs.Tie as tie
-use Rattle.sheet.proofs.line.no_runs.Reads as reads
-use Rattle.sheet.proofs.line.no_runs.Lts as lts
 
 returns : tie.Need-returns
 returns c = runs-nil

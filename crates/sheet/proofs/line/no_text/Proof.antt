@@ -3,8 +3,6 @@
 use Rattle.sheet.proofs.TestGist.{gist-nil}
 use Rattle.sheet.proofs.line.no_text.Statement.{statement}
 use Rattle.sheet.proofs.line.no_text.Tie as tie
-use Rattle.sheet.proofs.line.no_text.Reads as reads
-use Rattle.sheet.proofs.line.no_text.Lts as lts
 
 returns : tie.Need-returns
 returns c = gist-nil

@@ -1,15 +1,8 @@
 -- `sheet::line::pushed` meets its contract.
 -- Assumes nothing.
-use mathlib.Core.Path.{_≡_, ap}
 use borrow.Author.Needs.{needs}
 use Rattle.sheet.proofs.line.pushed.Statement.{statement}
 use Rattle.sheet.proofs.line.pushed.Tie as tie
-use Rattle.sheet.proofs.line.pushed.Reads as reads
-use Rattle.sheet.proofs.line.pushed.Lts as lts
-use Rattle.sheet.proofs.count.add.Reads as add-reads
-use Rattle.sheet.proofs.line.is_special.Reads as is-special-reads
-use Rattle.sheet.proofs.line.pick.Reads as pick-reads
-use Rattle.sheet.proofs.line.weight_of.Reads as weight-of-reads
 
 weight-of-requires : tie.Need-weight-of-requires
 weight-of-requires c κs = search needs
@@ -24,7 +17,8 @@ is-special-requires : tie.Need-is-special-requires
 is-special-requires c κs = search needs
 
 returns : tie.Need-returns
-returns c = cc (c .before .before .before .before .before .before .add .ensures, c .before .before .before .before .before .before .before .weight-of .ensures, c .before .before .before .before .before .pick .ensures, c .before .is-special .ensures)
+returns c =
+    cc (c .before .before .before .before .before .before .add .ensures, c .before .before .before .before .before .before .before .weight-of .ensures, c .before .before .before .before .before .pick .ensures, c .before .is-special .ensures)
 
 pub pushed-spec : {M : Type 1} → statement M
 pushed-spec =

@@ -1,11 +1,8 @@
 -- `sheet::line::suits` meets its contract.
 -- Assumes nothing.
-use mathlib.Core.Path.{refl}
 use borrow.Author.Needs.{needs}
 use Rattle.sheet.proofs.line.suits.Statement.{statement}
 use Rattle.sheet.proofs.line.suits.Tie as tie
-use Rattle.sheet.proofs.line.suits.Reads as reads
-use Rattle.sheet.proofs.line.suits.Lts as lts
 
 enum-told : tie.Need-enum-told
 enum-told c = search needs

@@ -1,15 +1,10 @@
 -- `sheet::line::touches` meets its contract.
 -- Assumes nothing.
-use mathlib.Core.Path.{_∙_}
 use Rattle.sheet.specs.Facts.{kind-of}
 use Rattle.sheet.proofs.TestRuns.{touching}
 use borrow.Author.Needs.{needs}
 use Rattle.sheet.proofs.line.touches.Statement.{statement}
 use Rattle.sheet.proofs.line.touches.Tie as tie
-use Rattle.sheet.proofs.line.touches.Reads as reads
-use Rattle.sheet.proofs.line.touches.Lts as lts
-use Rattle.sheet.proofs.line.has_em.Reads as has-em-reads
-use Rattle.sheet.proofs.line.is_plain.Reads as is-plain-reads
 
 is-plain-requires : tie.Need-is-plain-requires
 is-plain-requires c κs = search needs
@@ -24,7 +19,10 @@ has-em-requires-2 : tie.Need-has-em-requires-2
 has-em-requires-2 c κs = search needs
 
 returns : tie.Need-returns
-returns c = let a = c .before .before .before .before .args in rw (c .before .before .before .is-plain .ensures, c .before .before .is-plain2 .ensures, c .before .has-em .ensures, c .has-em2 .ensures) (touching (kind-of (a .k)) (kind-of (a .l)))
+returns c =
+    let a = c .before .before .before .before .args in
+    rw (c .before .before .before .is-plain .ensures, c .before .before .is-plain2 .ensures, c .before .has-em .ensures, c .has-em2 .ensures)
+    (touching (kind-of (a .k)) (kind-of (a .l)))
 
 pub touches-spec : {M : Type 1} → statement M
 touches-spec =

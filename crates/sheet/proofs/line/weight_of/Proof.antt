@@ -7,10 +7,6 @@ use Rattle.sheet.proofs.TestGist.{weight-special, weight-other}
 use borrow.Author.Needs.{needs}
 use Rattle.sheet.proofs.line.weight_of.Statement.{statement}
 use Rattle.sheet.proofs.line.weight_of.Tie as tie
-use Rattle.sheet.proofs.line.weight_of.Reads as reads
-use Rattle.sheet.proofs.line.weight_of.Lts as lts
-use Rattle.sheet.proofs.line.is_special.Reads as is-special-reads
-use Rattle.text.proofs.width.Reads as width-reads
 
 width-requires : tie.Need-width-requires
 width-requires c κs = search needs
@@ -19,13 +15,20 @@ is-special-requires : tie.Need-is-special-requires
 is-special-requires c κs = search needs
 
 add-t4 : tie.Need-add-t4
-add-t4 c = let a = c .before .before .before .args in let l = utf8-size (a .c) in omega (arith, c .before .before .width .ensures)
+add-t4 c =
+    let a = c .before .before .before .args in
+    let l = utf8-size (a .c) in
+    omega (arith, c .before .before .width .ensures)
 
 returns : tie.Need-returns
-returns c = let a = c .before .before .before .args in weight-special (a .c) (sym (c .before .is-special .ensures) ∙ c .if1 .taken) (c .before .before .width .ensures)
+returns c =
+    let a = c .before .before .before .args in
+    weight-special (a .c) (sym (c .before .is-special .ensures) ∙ c .if1 .taken) (c .before .before .width .ensures)
 
 returns-2 : tie.Need-returns-2
-returns-2 c = let a = c .before .before .before .args in weight-other (a .c) (sym (c .before .is-special .ensures) ∙ c .if1 .left) (c .before .before .width .ensures)
+returns-2 c =
+    let a = c .before .before .before .args in
+    weight-other (a .c) (sym (c .before .is-special .ensures) ∙ c .if1 .left) (c .before .before .width .ensures)
 
 pub weight-of-spec : {M : Type 1} → statement M
 weight-of-spec = tie.close (tie.spec width-requires is-special-requires add-t4 returns returns-2)

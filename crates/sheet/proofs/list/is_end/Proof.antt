@@ -1,14 +1,11 @@
 -- `sheet::list::is_end` meets its contract.
 -- Assumes nothing.
-use mathlib.Core.Path.{_≡_, refl}
+use mathlib.Core.Path.{refl}
 use Rattle.text.specs.Words.{str}
 use Rattle.sheet.proofs.TestTags.{tagged}
 use borrow.Author.Needs.{needs}
 use Rattle.sheet.proofs.list.is_end.Statement.{statement}
 use Rattle.sheet.proofs.list.is_end.Tie as tie
-use Rattle.sheet.proofs.list.is_end.Reads as reads
-use Rattle.sheet.proofs.list.is_end.Lts as lts
-use Rattle.text.proofs.starts_with.Reads as starts-with-reads
 
 slice-aggregate-starts-with : tie.Need-slice-aggregate-starts-with
 slice-aggregate-starts-with c = search needs
@@ -23,10 +20,14 @@ starts-with-requires-2 : tie.Need-starts-with-requires-2
 starts-with-requires-2 c κs = search needs
 
 returns : tie.Need-returns
-returns c = let a = c .before .before .before .before .args in rw (c .before .before .if1 .taken) (tagged (str "</ol>") (a .page .now) (a .at) refl (c .starts-with .ensures))
+returns c =
+    let a = c .before .before .before .before .args in
+    rw (c .before .before .if1 .taken) (tagged (str "</ol>") (a .page .now) (a .at) refl (c .starts-with .ensures))
 
 returns-2 : tie.Need-returns-2
-returns-2 c = let a = c .before .before .before .before .args in rw (c .before .before .if1 .left) (tagged (str "</ul>") (a .page .now) (a .at) refl (c .starts-with2 .ensures))
+returns-2 c =
+    let a = c .before .before .before .before .args in
+    rw (c .before .before .if1 .left) (tagged (str "</ul>") (a .page .now) (a .at) refl (c .starts-with2 .ensures))
 
 pub is-end-spec : {M : Type 1} → statement M
 is-end-spec =

@@ -1,15 +1,9 @@
 -- `sheet::list::lead` meets its contract.
 -- Assumes nothing.
-use mathlib.Core.Path.{_≡_}
 use Rattle.sheet.proofs.TestForms.{lead-none, lead-some}
 use borrow.Author.Needs.{needs}
 use Rattle.sheet.proofs.list.lead.Statement.{statement}
 use Rattle.sheet.proofs.list.lead.Tie as tie
-use Rattle.sheet.proofs.list.lead.Reads as reads
-use Rattle.sheet.proofs.list.lead.Lts as lts
-use Rattle.sheet.proofs.count.ascii.Reads as ascii-reads
-use Rattle.sheet.proofs.count.sum.Reads as sum-reads
-use Rattle.sheet.proofs.list.digits.Reads as digits-reads
 
 mul-ascii : tie.Need-mul-ascii
 mul-ascii c = search needs
@@ -21,7 +15,9 @@ ascii-requires : tie.Need-ascii-requires
 ascii-requires c κs = search needs
 
 returns : tie.Need-returns
-returns c = let a = c .before .before .args in lead-none (a .depth) (a .place) (c .before .if1 .taken) (c .ascii .ensures)
+returns c =
+    let a = c .before .before .args in
+    lead-none (a .depth) (a .place) (c .before .if1 .taken) (c .ascii .ensures)
 
 digits-requires : tie.Need-digits-requires
 digits-requires c κs = search needs
@@ -39,7 +35,10 @@ ascii-requires-2 : tie.Need-ascii-requires-2
 ascii-requires-2 c κs = search needs
 
 returns-2 : tie.Need-returns-2
-returns-2 c = let a = c .before .before .before .before .args in lead-some (a .depth) (a .place) (c .before .before .before .if1 .left) (c .before .before .digits .ensures) (c .before .sum .ensures) (c .ascii2 .ensures)
+returns-2 c =
+    let a = c .before .before .before .before .args in
+    lead-some (a .depth) (a .place) (c .before .before .before .if1 .left) (c .before .before .digits .ensures) (c .before .sum .ensures)
+    (c .ascii2 .ensures)
 
 pub lead-spec : {M : Type 1} → statement M
 lead-spec =
