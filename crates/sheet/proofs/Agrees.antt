@@ -7,9 +7,9 @@ use mathlib.Core.List.{List}
 use mathlib.Core.Option.{some}
 use borrow.Author.Tests.{le-ltb}
 use lib.ListN.{length}
-use Rattle.text.specs.Utf8.{size, encode, decode}
+use Rattle.text.specs.Utf8.{size, encode}
 use Rattle.text.specs.Outcome.{Outcome, wrote}
-use Rattle.text.proofs.Laws.{decode-sound, decode-encode, size-encode}
+use Rattle.text.proofs.Laws.{decode-iff, decode-encode, size-encode}
 use Rattle.html.specs.Calls.{html-to-markdown-call}
 use Rattle.records.specs.Format.{encode-blocks}
 use Rattle.markdown.specs.Blocks.{blocks}
@@ -17,7 +17,9 @@ use Rattle.markdown.specs.Calls.{recorded, with-buffers, blocks-call}
 use Rattle.sheet.specs.Tree.{Block}
 use Rattle.sheet.specs.Written.{written, blocks-of}
 use Rattle.sheet.specs.Sheet.{IsSheet}
-use Rattle.sheet.proofs.Converts.{sheet-call}
+use Rattle.sheet.specs.Calls.{yes-sheet, sheet-call}
+use Rattle.sheet.proofs.TestCall.{sheet-iff}
+use Rattle.sheet.proofs.Converts.{sheet-call as converts-call}
 use Rattle.sheet.proofs.SheetReads.{sheet-reads}
 use Rattle.sheet.proofs.SheetScalars.{sheet-scalars}
 
@@ -30,13 +32,14 @@ pub record Agrees (page : List ℕ) (t : List Block) : Type 0 where
 
 module _ (page : List ℕ) (t : List Block) (sheet : IsSheet page t) where
   page-bytes : size (sheet .html) ≡ length page
-  page-bytes = sym (size-encode (sheet .html)) ∙ ap length (decode-sound page (sheet .html) (sheet .utf8) .1)
+  page-bytes = sym (size-encode (sheet .html)) ∙ ap length (sheet .encoded)
 
   converted : (work result : ℕ) → 2 * length page + 16384 ≤ work → 32000 ≤ result
       → html-to-markdown-call page work result ≡ wrote (encode (written t))
   converted work result a b =
       let n = page-bytes in
-      sheet-call page work result (sheet .utf8) (sheet .grammar) (sheet .bytes) (sheet .characters) (omega arith) b
+      let d = decode-iff page (sheet .html) .1 (sheet .scalars, sheet .encoded) in
+      converts-call page work result d (sheet .grammar) (sheet .bytes) (sheet .characters) (omega arith) b
 
   read : (work result : ℕ) → 6 * length (encode (written t)) ≤ work → length (encode-blocks (blocks-of t)) ≤ result
       → blocks-call (encode (written t)) work result ≡ wrote (encode-blocks (blocks-of t))
@@ -44,7 +47,7 @@ module _ (page : List ℕ) (t : List Block) (sheet : IsSheet page t) where
   read work result a b =
       let n = size-encode (written t) in
       let m = sheet .bytes in
-      let scalars = sheet-scalars (sheet .grammar) (decode-sound page (sheet .html) (sheet .utf8) .0) in
+      let scalars = sheet-scalars (sheet .grammar) (sheet .scalars) in
       rw (
         le-ltb 65536 (length (encode (written t))) (omega arith),
         decode-encode (written t) scalars,
@@ -55,3 +58,10 @@ module _ (page : List ℕ) (t : List Block) (sheet : IsSheet page t) where
 
   pub sheet-agrees : Agrees page t
   sheet-agrees = record { converts = converted; reads = read }
+
+-- so it is for every page that the test says yes to, and the counts are those of the Markdown
+pub test-agrees : (page : List ℕ) (b c : ℕ) → sheet-call page ≡ yes-sheet b c
+    → (t : List Block) × Agrees page t × (length (encode (written t)) ≡ b) × (length (written t) ≡ c)
+test-agrees page b c e =
+    let (t, s, x, y) = sheet-iff page b c .0 e in
+    (t, sheet-agrees page t s, size-encode (written t) ∙ x, y)

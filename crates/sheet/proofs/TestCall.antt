@@ -18,21 +18,14 @@ use Rattle.sheet.specs.Tree.{Block}
 use Rattle.sheet.specs.Grammar.{IsPage}
 use Rattle.sheet.specs.Reader.{read-page}
 use Rattle.sheet.specs.Written.{written}
+use Rattle.sheet.specs.Sheet.{IsSheet}
 use Rattle.sheet.specs.Sound.{bind-inv, guard-inv, page-sound}
 use Rattle.sheet.specs.Complete.{page-complete}
 use Rattle.sheet.specs.Calls.{small, sheet, no-utf8, no-sheet, yes-sheet, sheet-call}
 
--- a page is a sheet: its characters, which are scalar values, are a page of the grammar, and the written form of its tree is small
-pub record IsSheet (page : List ℕ) (bytes chars : ℕ) : Type 0 where
-  pub text : List ℕ
-  pub tree : List Block
-  pub scalars : Scalars text
-  pub encoded : encode text ≡ page
-  pub read : IsPage text tree
-  pub sized : size (written tree) ≡ bytes
-  pub counted : length (written tree) ≡ chars
-  pub few-bytes : bytes < 16000
-  pub few-chars : chars ≤ 8000
+-- a page is a sheet, and these are the bytes and characters of its written form
+abbrev pub Counted : List ℕ → ℕ → ℕ → Type 0
+Counted page b c = (t : List Block) × IsSheet page t × (size (written t) ≡ b) × (length (written t) ≡ c)
 
 -- a text is a page of the grammar in one way at most
 pub one-tree : {s : List ℕ} {t u : List Block} → IsPage s t → IsPage s u → t ≡ u
@@ -52,11 +45,11 @@ unfolding sheet
 sheet-complete p h = rw (page-complete p, h)
 
 module _ (page : List ℕ) (b c : ℕ) where
-  forth : sheet-call page ≡ yes-sheet b c → IsSheet page b c
+  forth : sheet-call page ≡ yes-sheet b c → Counted page b c
   unfolding sheet-call small
   forth e = go (decode page) refl e
     where
-      held : (s : List ℕ) → decode page ≡ some s → (o : Option (List Block)) → sheet s ≡ o → case o no-sheet (λ t. yes-sheet (size (written t)) (length (written t))) ≡ yes-sheet b c → IsSheet page b c
+      held : (s : List ℕ) → decode page ≡ some s → (o : Option (List Block)) → sheet s ≡ o → case o no-sheet (λ t. yes-sheet (size (written t)) (length (written t))) ≡ yes-sheet b c → Counted page b c
       held s d none h f = let z : _≡_ {A = ℕ} 0 1 = cc in absurd (omega arith)
       held s d (some t) h f =
           let p = sheet-sound s t h in
@@ -66,26 +59,21 @@ module _ (page : List ℕ) (b c : ℕ) where
           let y : length (written t) ≡ c = cc in
           let m = ltb-true (size (written t)) 16000 (l .0) in
           let n = leb-true (length (written t)) 8000 (l .1) in
-          record { text = s; tree = t; scalars = u .0; encoded = u .1; read = p .0; sized = x; counted = y; few-bytes = omega arith; few-chars = omega arith }
+          (t, record { html = s; scalars = u .0; encoded = u .1; grammar = p .0; bytes = m; characters = n }, x, y)
 
-      go : (o : Option (List ℕ)) → decode page ≡ o → case o no-utf8 (λ s. case (sheet s) no-sheet (λ t. yes-sheet (size (written t)) (length (written t)))) ≡ yes-sheet b c → IsSheet page b c
+      go : (o : Option (List ℕ)) → decode page ≡ o → case o no-utf8 (λ s. case (sheet s) no-sheet (λ t. yes-sheet (size (written t)) (length (written t)))) ≡ yes-sheet b c → Counted page b c
       go none d f = let z : _≡_ {A = ℕ} 0 1 = cc in absurd (omega arith)
       go (some s) d f = held s d (sheet s) refl f
 
-  back : IsSheet page b c → sheet-call page ≡ yes-sheet b c
+  back : Counted page b c → sheet-call page ≡ yes-sheet b c
   unfolding sheet-call small
-  back h =
-      let d = decode-iff page (h .text) .1 (h .scalars, h .encoded) in
-      let t = h .tree in
-      let x = h .sized in
-      let y = h .counted in
-      let m : size (written t) < 16000 = let f = h .few-bytes in omega arith in
-      let n : length (written t) ≤ 8000 = let f = h .few-chars in omega arith in
-      let k : small t ≡ true = rw (lt-ltb (size (written t)) 16000 m, le-leb (length (written t)) 8000 n) in
-      rw (d, sheet-complete (h .read) k, x, y)
+  back (t, h, x, y) =
+      let d = decode-iff page (h .html) .1 (h .scalars, h .encoded) in
+      let k : small t ≡ true = rw (lt-ltb (size (written t)) 16000 (h .bytes), le-leb (length (written t)) 8000 (h .characters)) in
+      rw (d, sheet-complete (h .grammar) k, x, y)
 
   -- the test says yes with these counts exactly to these pages
-  pub sheet-iff : (sheet-call page ≡ yes-sheet b c) ↔ IsSheet page b c
+  pub sheet-iff : (sheet-call page ≡ yes-sheet b c) ↔ Counted page b c
   sheet-iff = (forth, back)
 
 -- it refuses exactly what encodes no scalar values
