@@ -1,3 +1,4 @@
 pub mod State
 pub mod Page
 pub mod Calls
+pub mod Struct

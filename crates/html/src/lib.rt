@@ -1,1 +1,89 @@
-// The converter.
+// The converter: a release page, HTML, as Markdown with only headings, emphasis, code and lists.
+ghost use mathlib.Core.Path.{_≡_};
+ghost use Prim.Native.Nat.{ℕ};
+ghost use mathlib.Core.List.{List};
+ghost use Rattle.html.specs.State.{new};
+ghost use Rattle.html.specs.Struct.{state-of};
+
+mod output;
+
+// The tag whose text is being skipped.
+pub enum Skip {
+    Nothing,
+    Script,
+    Style,
+}
+
+// The state: how many bytes of the lent output are written, the numbers of the open lists (0 for `ul`, for `ol` one
+// more than the items begun), and three flags.
+pub struct Converter {
+    pub len: usize,
+    pub lists: [usize; Converter::MAX_LISTS],
+    pub depth: usize,
+    pub pre: bool,
+    pub space: bool,
+    pub skip: Skip,
+}
+
+// The tags that only write.
+pub enum Step {
+    Heading(usize),
+    Block,
+    Pre,
+    Break,
+    Item,
+    Row,
+    Cell,
+    Strong,
+    Emphasis,
+    Code,
+    Other,
+}
+
+// What a tag's name says: a list, a tag whose text is skipped, or one that only writes.
+pub enum Tag {
+    Ul,
+    Ol,
+    Skipped(Skip),
+    Writes(Step),
+}
+
+// A tag step's answer: the state, or a refusal where 64 lists are open already.
+pub struct Tagged {
+    pub ok: bool,
+    pub state: Converter,
+}
+
+// What a turn over a page leaves: whether it was refused, where the next turn starts, and the state.
+pub struct Turned {
+    pub ok: bool,
+    pub next: usize,
+    pub state: Converter,
+}
+
+impl Converter {
+    // The longest notes text kept, in characters.
+    pub const MAX_NOTES: usize = 8_000;
+
+    // The output, in bytes, from which on no turn is taken.
+    pub const MAX_OUT: usize = 16_000;
+
+    // The most lists that are open together.
+    pub const MAX_LISTS: usize = 64;
+
+    // The longest HTML read, in bytes.
+    pub const MAX_HTML: usize = 1_048_576;
+
+    pub fn new() -> Self
+        ensures { λ r. ⌜ ((w : List ℕ) → state-of r w ≡ new) ⌝ }
+    {
+        Converter {
+            len: 0,
+            lists: [0; Self::MAX_LISTS],
+            depth: 0,
+            pre: false,
+            space: false,
+            skip: Skip::Nothing,
+        }
+    }
+}

@@ -1,0 +1,29 @@
+-- `Converter::line_start` meets its contract.
+-- Assumes nothing.
+use mathlib.Core.Path.{_≡_, refl, sym, ap, _∙_}
+use native.Mathlib.Omega.{arith}
+use denote.Ref.{now}
+use Rattle.html.specs.Struct.{state-of}
+use Rattle.html.proofs.OutLaws.{start-last, start-none}
+use borrow.Author.Needs.{needs}
+use Rattle.html.proofs.Converter.line_start.Statement.{statement}
+use Rattle.html.proofs.Converter.line_start.Tie as tie
+use Rattle.html.proofs.Converter.line_start.Reads as reads
+use Rattle.html.proofs.Converter.line_start.Lts as lts
+
+returns : tie.Need-returns
+unfolding state-of
+returns c = let a = c .before .args in start-none (a .self .len) (now (a .out)) (c .if1 .taken)
+
+sub-result : tie.Need-sub-result
+sub-result c = search needs
+
+shared-slice-read-result : tie.Need-shared-slice-read-result
+shared-slice-read-result c = search needs
+
+returns-2 : tie.Need-returns-2
+unfolding state-of
+returns-2 c = let a = c .before .before .args in start-last (a .self .len) (now (a .out)) (omega arith)
+
+pub line-start-spec : {M : Type 1} → statement M
+line-start-spec = tie.close (tie.spec returns sub-result shared-slice-read-result returns-2)
