@@ -1,2 +1,3 @@
 pub mod OutLaws
 pub mod NumberLaws
+pub mod GrowLaws

@@ -3,13 +3,13 @@
 -- Assumes nothing.
 use Prim.Native.Nat.{ℕ, zero, suc}
 use mathlib.Core.Bool.{Bool, true, false}
-use mathlib.Core.List.{List, [], _∷_, _++_, reverse}
+use mathlib.Core.List.{List, [], _∷_, _++_, reverse, reverseAux, tail}
 use mathlib.Core.Option.{Option, none, some}
-use lib.Dec.{ltb}
-use lib.ListN.{getD, drop}
-use Rattle.text.specs.Words.{if_then_else_, case, str, is, drop-while}
+use lib.Dec.{ltb, leb}
+use lib.ListN.{length, getD, drop}
+use Rattle.text.specs.Words.{if_then_else_, case, str, repeat, is, drop-while}
 use Rattle.text.specs.Utf8.{chars}
-use Rattle.html.specs.State.{State, with-out, push-str, spaced, heading, marked, para, pre, br, ul, ol, li, tr, cell, code, other}
+use Rattle.html.specs.State.{State, with-out, push-str, spaced, block, list-changed, heading, marked, para, pre, br, ul, ol, li, tr, cell, code, other}
 use Rattle.html.specs.State as state
 use Rattle.html.specs.Page.{Turn, read, refused}
 use Rattle.html.specs.declared.Skip.{Skip}
@@ -60,6 +60,21 @@ unspaced c = with-out (drop-while (is " ") (c .out)) false c
 -- `marks`, for the bytes of a mark
 unfoldable pub marks-of : List ℕ → Bool → State → State
 marks-of m closing c = push-str m (if closing then c else spaced c)
+
+-- text that ends a pending space
+unfoldable pub ended : List ℕ → State → State
+ended s c = with-out (reverseAux s (c .out)) false c
+
+-- `h1` to `h6`
+unfoldable pub heading-of : ℕ → Bool → State → State
+heading-of n closing c = if closing then block c else push-str (repeat (if ltb n 3 then n else 3) "#" ++ str " ") (block c)
+
+-- `ul` and `ol`, by the number that the list starts with
+unfoldable pub list-tag : ℕ → Bool → State → Option State
+list-tag first closing c =
+    if closing then some (list-changed (tail (c .lists)) c)
+    else if leb 64 (length (c .lists)) then none
+    else some (list-changed (first ∷ c .lists) c)
 
 -- the tags that only write, and all tags
 abbrev pub step-means : Step → state.Tag

@@ -6,6 +6,7 @@ ghost use Rattle.html.specs.State.{new};
 ghost use Rattle.html.specs.Struct.{state-of};
 
 mod output;
+mod tags;
 
 // The tag whose text is being skipped.
 pub enum Skip {
