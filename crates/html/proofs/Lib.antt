@@ -1,3 +1,4 @@
 pub mod OutLaws
 pub mod NumberLaws
 pub mod GrowLaws
+pub mod StepLaws

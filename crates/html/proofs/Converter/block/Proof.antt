@@ -1,3 +1,13 @@
+-- `Converter::block` meets its contract.
+-- Assumes nothing.
+use mathlib.Core.Path.{_≡_, refl, sym, ap, _∙_}
+use native.Mathlib.Omega.{arith}
+use denote.Ref.{now}
+use Rattle.html.specs.Struct.{state-of, unspaced}
+use Rattle.html.proofs.GrowLaws.{grown, grow-unspaced}
+use Rattle.html.proofs.StepLaws.{empty-yes, empty-no, block-none, block-blank, block-feed, block-two}
+use Rattle.html.specs.State.{push-str}
+use mathlib.Core.List.{[], _∷_}
 use borrow.Author.Needs.{needs}
 use Rattle.html.proofs.Converter.block.Statement.{statement}
 use Rattle.html.proofs.Converter.block.Tie as tie
@@ -9,61 +19,47 @@ use Rattle.html.proofs.Converter.push.Reads as push-reads
 use Rattle.html.proofs.Converter.push_all.Reads as push-all-reads
 use Rattle.html.proofs.Converter.unspaced.Reads as unspaced-reads
 
--- src/tags.rt:22:9
 unspaced-requires : tie.Need-unspaced-requires
 unspaced-requires c κs = search needs
 
--- src/tags.rt:24:13
 same-length : tie.Need-same-length
 same-length c = search needs
 
--- src/tags.rt:24:13
 returns : tie.Need-returns
-returns c = ?
+returns c = let w = now (c .before .before .before .before .before .args .out) in let r = c .before .before .unspaced .result in block-none (state-of r w) _ (c .before .before .unspaced .ensures) (empty-yes r w (c .if1 .taken))
 
--- src/tags.rt:26:12
 ends-blank-requires : tie.Need-ends-blank-requires
-ends-blank-requires c κs = ?
+ends-blank-requires c κs = let u = grown unspaced 0 grow-unspaced _ _ _ _ (c .before .before .before .unspaced .ensures) in omega arith
 
--- src/tags.rt:27:13
 same-length-2 : tie.Need-same-length-2
 same-length-2 c = search needs
 
--- src/tags.rt:27:13
 returns-2 : tie.Need-returns-2
-returns-2 c = ?
+returns-2 c = let w = now (c .before .before .before .before .before .before .before .before .args .out) in let r = c .before .before .before .before .before .unspaced .result in block-blank (state-of r w) _ (c .before .before .before .before .before .unspaced .ensures) (empty-no r w (c .before .before .before .if1 .left)) (sym (c .before .ends-blank .ensures) ∙ c .if2 .taken)
 
--- src/tags.rt:29:12
 line-start-requires : tie.Need-line-start-requires
-line-start-requires c κs = ?
+line-start-requires c κs = let u = grown unspaced 0 grow-unspaced _ _ _ _ (c .before .before .before .before .before .before .unspaced .ensures) in omega arith
 
--- src/tags.rt:30:13
 push-requires : tie.Need-push-requires
-push-requires c κs = ?
+push-requires c κs = let u = grown unspaced 0 grow-unspaced _ _ _ _ (c .before .before .before .before .before .before .before .before .before .unspaced .ensures) in (omega arith, omega arith)
 
--- src/tags.rt:30:13
 same-length-3 : tie.Need-same-length-3
 same-length-3 c = search needs
 
--- src/tags.rt:30:13
 returns-3 : tie.Need-returns-3
-returns-3 c = ?
+returns-3 c = let w = now (c .before .before .before .before .before .before .before .before .before .before .before .before .before .before .before .args .out) in let r = c .before .before .before .before .before .before .before .before .before .before .before .before .unspaced .result in c .before .before .push .ensures ∙ block-feed (state-of r w) _ (c .before .before .before .before .before .before .before .before .before .before .before .before .unspaced .ensures) (empty-no r w (c .before .before .before .before .before .before .before .before .before .before .if1 .left)) (sym (c .before .before .before .before .before .before .before .before .ends-blank .ensures) ∙ c .before .before .before .before .before .before .before .if2 .left) (sym (c .before .before .before .before .before .line-start .ensures) ∙ c .before .before .before .before .if3 .taken)
 
--- src/tags.rt:32:28
 slice-aggregate-push-all : tie.Need-slice-aggregate-push-all
 slice-aggregate-push-all c = search needs
 
--- src/tags.rt:32:9
 push-all-requires : tie.Need-push-all-requires
-push-all-requires c κs = ?
+push-all-requires c κs = let u = grown unspaced 0 grow-unspaced _ _ _ _ (c .before .before .before .before .before .before .before .before .before .before .unspaced .ensures) in (omega arith, search needs)
 
--- src/tags.rt:18:5
 same-length-4 : tie.Need-same-length-4
 same-length-4 c = search needs
 
--- src/tags.rt:18:5
 returns-4 : tie.Need-returns-4
-returns-4 c = ?
+returns-4 c = let w = now (c .before .before .before .before .before .before .before .before .before .before .before .before .before .before .before .before .args .out) in let r = c .before .before .before .before .before .before .before .before .before .before .before .before .before .unspaced .result in c .before .before .push-all .ensures ∙ block-two (state-of r w) _ (c .before .before .before .before .before .before .before .before .before .before .before .before .before .unspaced .ensures) (empty-no r w (c .before .before .before .before .before .before .before .before .before .before .before .if1 .left)) (sym (c .before .before .before .before .before .before .before .before .before .ends-blank .ensures) ∙ c .before .before .before .before .before .before .before .before .if2 .left) (sym (c .before .before .before .before .before .before .line-start .ensures) ∙ c .before .before .before .before .before .if3 .left)
 
 pub block-spec : {M : Type 1} → statement M
 block-spec =

@@ -1,3 +1,9 @@
+-- `Converter::ended` meets its contract.
+-- Assumes nothing.
+use mathlib.Core.Path.{_≡_, refl, sym, ap, _∙_}
+use Rattle.html.specs.Struct.{state-of, ended}
+use Rattle.html.specs.State.{State, with-out}
+use mathlib.Core.Bool.{false}
 use borrow.Author.Needs.{needs}
 use Rattle.html.proofs.Converter.ended.Statement.{statement}
 use Rattle.html.proofs.Converter.ended.Tie as tie
@@ -5,17 +11,15 @@ use Rattle.html.proofs.Converter.ended.Reads as reads
 use Rattle.html.proofs.Converter.ended.Lts as lts
 use Rattle.html.proofs.Converter.push_all.Reads as push-all-reads
 
--- src/tags.rt:183:9
 push-all-requires : tie.Need-push-all-requires
 push-all-requires c κs = search needs
 
--- src/tags.rt:179:5
 same-length : tie.Need-same-length
 same-length c = search needs
 
--- src/tags.rt:179:5
 returns : tie.Need-returns
-returns c = ?
+unfolding state-of ended
+returns c = ap (λ (t : State). with-out (t .out) false t) (c .before .before .push-all .ensures)
 
 pub ended-spec : {M : Type 1} → statement M
 ended-spec = tie.close (tie.spec push-all-requires same-length returns)

@@ -1,3 +1,11 @@
+-- `Converter::marks` meets its contract.
+-- Assumes nothing.
+use mathlib.Core.Path.{_≡_, refl, sym, ap, _∙_}
+use native.Mathlib.Omega.{arith}
+use denote.Ref.{now}
+use Rattle.html.specs.Struct.{marks-of}
+use Rattle.html.proofs.GrowLaws.{grown, grow-spaced}
+use Rattle.html.specs.State.{spaced, push-str}
 use borrow.Author.Needs.{needs}
 use Rattle.html.proofs.Converter.marks.Statement.{statement}
 use Rattle.html.proofs.Converter.marks.Tie as tie
@@ -6,33 +14,28 @@ use Rattle.html.proofs.Converter.marks.Lts as lts
 use Rattle.html.proofs.Converter.push_all.Reads as push-all-reads
 use Rattle.html.proofs.Converter.spaced.Reads as spaced-reads
 
--- src/tags.rt:51:13
 push-all-requires : tie.Need-push-all-requires
 push-all-requires c κs = search needs
 
--- src/tags.rt:51:13
 same-length : tie.Need-same-length
 same-length c = search needs
 
--- src/tags.rt:51:13
 returns : tie.Need-returns
-returns c = ?
+unfolding marks-of
+returns c = rw (c .before .before .before .before .if1 .taken) (c .before .before .push-all .ensures)
 
--- src/tags.rt:53:9
 spaced-requires : tie.Need-spaced-requires
 spaced-requires c κs = search needs
 
--- src/tags.rt:54:9
 push-all-requires-2 : tie.Need-push-all-requires-2
-push-all-requires-2 c κs = ?
+push-all-requires-2 c κs = let u = grown spaced 1 grow-spaced _ _ _ _ (c .before .before .before .spaced .ensures) in (omega arith, c .before .before .before .before .before .before .before .before .pre .1)
 
--- src/tags.rt:46:5
 same-length-2 : tie.Need-same-length-2
 same-length-2 c = search needs
 
--- src/tags.rt:46:5
 returns-2 : tie.Need-returns-2
-returns-2 c = ?
+unfolding marks-of
+returns-2 c = rw (c .before .before .before .before .before .before .before .before .if1 .left) (c .before .before .push-all2 .ensures ∙ ap (push-str (now (c .before .before .before .before .before .before .before .before .before .before .before .args .mark))) (c .before .before .before .before .before .before .spaced .ensures))
 
 pub marks-spec : {M : Type 1} → statement M
 marks-spec =

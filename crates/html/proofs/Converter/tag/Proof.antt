@@ -1,3 +1,10 @@
+-- `Converter::tag` meets its contract.
+-- Assumes nothing.
+use mathlib.Core.Path.{_≡_, refl, sym, ap, _∙_}
+use denote.Ref.{now}
+use Rattle.html.specs.Struct.{tagged, state-of}
+use Rattle.html.proofs.StepLaws.{listed-ul, listed-ol, listed-step, listed-other}
+use mathlib.Core.Option.{some}
 use borrow.Author.Needs.{needs}
 use Rattle.html.proofs.Converter.tag.Statement.{statement}
 use Rattle.html.proofs.Converter.tag.Tie as tie
@@ -6,61 +13,49 @@ use Rattle.html.proofs.Converter.tag.Lts as lts
 use Rattle.html.proofs.Converter.list.Reads as list-reads
 use Rattle.html.proofs.Converter.step.Reads as step-reads
 
--- src/tags.rt:248:34
 enum-told : tie.Need-enum-told
 enum-told c = search needs
 
--- src/tags.rt:248:24
 list-requires : tie.Need-list-requires
 list-requires c κs = search needs
 
--- src/tags.rt:249:34
 enum-told-2 : tie.Need-enum-told-2
 enum-told-2 c = search needs
 
--- src/tags.rt:249:24
 list-requires-2 : tie.Need-list-requires-2
 list-requires-2 c κs = search needs
 
--- src/tags.rt:250:32
 enum-told-3 : tie.Need-enum-told-3
 enum-told-3 c = search needs
 
--- src/tags.rt:254:25
 enum-known-tag : tie.Need-enum-known-tag
 enum-known-tag c = search needs
 
--- src/tags.rt:255:17
 step-requires : tie.Need-step-requires
 step-requires c κs = search needs
 
--- src/tags.rt:241:5
 same-length : tie.Need-same-length
 same-length c = search needs
 
--- src/tags.rt:241:5
 returns : tie.Need-returns
-returns c = ?
+returns c = rw (c .before .before .before .before .enum-told .given .1) (c .before .before .list .ensures ∙ listed-ul _ _)
 
--- src/tags.rt:241:5
 same-length-2 : tie.Need-same-length-2
 same-length-2 c = search needs
 
--- src/tags.rt:241:5
 returns-2 : tie.Need-returns-2
-returns-2 c = ?
+returns-2 c = rw (c .before .before .before .before .enum-told2 .given .1) (c .before .before .list2 .ensures ∙ listed-ol _ _)
 
--- src/tags.rt:241:5
 returns-3 : tie.Need-returns-3
-returns-3 c = ?
+unfolding tagged
+returns-3 c = rw (c .enum-told3 .given .1) (listed-other _ _)
 
--- src/tags.rt:241:5
 same-length-3 : tie.Need-same-length-3
 same-length-3 c = search needs
 
--- src/tags.rt:241:5
 returns-4 : tie.Need-returns-4
-returns-4 c = ?
+unfolding tagged
+returns-4 c = rw (c .before .before .before .before .before .tag .given .1) (ap some (c .before .before .step .ensures) ∙ listed-step (c .before .before .before .before .before .tag .given .0 .0) (c .before .before .before .before .before .before .before .before .args .closing) (state-of (c .before .before .before .before .before .before .before .before .args .self) (now (c .before .before .before .before .before .before .before .before .args .out))))
 
 pub tag-spec : {M : Type 1} → statement M
 tag-spec =
