@@ -2,3 +2,4 @@ pub mod OutLaws
 pub mod NumberLaws
 pub mod GrowLaws
 pub mod StepLaws
+pub mod NameLaws

@@ -2,3 +2,4 @@ pub mod State
 pub mod Page
 pub mod Calls
 pub mod Struct
+pub mod Names

@@ -5,6 +5,7 @@ ghost use mathlib.Core.List.{List};
 ghost use Rattle.html.specs.State.{new};
 ghost use Rattle.html.specs.Struct.{state-of};
 
+mod names;
 mod output;
 mod tags;
 
