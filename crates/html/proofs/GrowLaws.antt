@@ -16,7 +16,7 @@ use Rattle.text.proofs.Utf8.{utf8-1}
 use Rattle.text.proofs.Laws.{utf8-size}
 use Rattle.text.proofs.AsciiLaws.{Ascii}
 use Rattle.html.specs.State.{State, with-out, push-str, line-start, block, newline, spaced}
-use Rattle.html.specs.Struct.{state-of, out-of, unspaced, marks-of}
+use Rattle.html.specs.Struct.{state-of, out-of, marks-of}
 use Rattle.html.specs.declared.Converter.{Converter}
 use Rattle.html.proofs.OutLaws.{size-out, size-aux}
 
@@ -69,9 +69,8 @@ size-spaces (b ∷ o) = let h = size-spaces o in on (λ (l : List ℕ). size l �
 abbrev Most : ℕ → State → Type 0
 Most n c = size (c .out) ≤ n
 
-pub grow-unspaced : (c : State) → size (unspaced c .out) ≤ size (c .out) + 0
-unfolding unspaced
-grow-unspaced c = omega (arith, size-spaces (c .out))
+pub unspaced-most : (m n : ℕ) (w : List ℕ) → out-of n w ≡ drop-while (is " ") (out-of m w) → n ≤ m
+unspaced-most m n w e = omega (arith, size-out n w, size-out m w, ap size e, size-spaces (out-of m w))
 
 pub grow-block : (c : State) → size (block c .out) ≤ size (c .out) + 2
 unfolding block size

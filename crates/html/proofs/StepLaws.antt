@@ -59,18 +59,22 @@ pub like : (a r : Converter) → lists-of r ≡ lists-of a → r .depth ≡ a .d
 like a r e = sym (length-upto (r .depth) (r .lists)) ∙ ap length e ∙ length-upto (a .depth) (a .lists)
 
 -- ---- `block` and `newline`
-pub empty-yes : (r : Converter) (w : List ℕ) → r .len ≡ 0 → is-empty (state-of r w .out) ≡ true
-unfolding state-of
-empty-yes r w h = rw (out-none (r .len) w h)
+pub empty-yes : (n : ℕ) (w : List ℕ) → n ≡ 0 → is-empty (out-of n w) ≡ true
+empty-yes n w h = rw (out-none n w h)
 
 some-size : (o : List ℕ) (n : ℕ) → size o ≡ n → (n ≡ 0 → ⊥) → is-empty o ≡ false
 unfolding size
 some-size [] n e h = absurd (h (sym e))
 some-size (x ∷ o) n e h = refl
 
-pub empty-no : (r : Converter) (w : List ℕ) → (r .len ≡ 0 → ⊥) → is-empty (state-of r w .out) ≡ false
-unfolding state-of
-empty-no r w h = some-size (out-of (r .len) w) (r .len) (size-out (r .len) w) h
+pub empty-no : (n : ℕ) (w : List ℕ) → (n ≡ 0 → ⊥) → is-empty (out-of n w) ≡ false
+empty-no n w h = some-size (out-of n w) n (size-out n w) h
+
+-- the state without the spaces at the output's end
+pub cleared : (a : Converter) (n : ℕ) (w : List ℕ) → out-of n w ≡ drop-while (is " ") (out-of (a .len) w)
+    → with-out (out-of n w) false (state-of a w) ≡ unspaced (state-of a w)
+unfolding state-of unspaced
+cleared a n w e = ap (λ (o : List ℕ). with-out o false (state-of a w)) e
 
 module _ (u c : State) (e : u ≡ unspaced c) where
   out-is : u .out ≡ drop-while (is " ") (c .out)

@@ -4,12 +4,64 @@ ghost use mathlib.Core.Path.{_≡_};
 ghost use Prim.Native.Nat.{_+_, _≤_, _<_};
 ghost use mathlib.Core.List.{[], _∷_};
 ghost use lib.ListN.{length, replicate};
-ghost use Rattle.text.specs.Words.{starts};
+ghost use Rattle.text.specs.Words.{is, starts, drop-while};
 ghost use Rattle.text.specs.Utf8.{IsScalar, utf8};
 ghost use Rattle.text.specs.Decimal.{decimal};
 ghost use Rattle.text.proofs.AsciiLaws.{Ascii};
 ghost use Rattle.html.specs.State.{push-str, line-start, spaced, ends-with-digit};
-ghost use Rattle.html.specs.Struct.{state-of, unspaced};
+ghost use Rattle.html.specs.Struct.{state-of, out-of};
+
+// The written bytes, without the spaces at their end.
+pub(crate) fn unspaced(out: &[u8], len: usize) -> usize
+    requires { ⌜ len ≤ length (now out) ⌝ }
+    ensures { λ r. ⌜ out-of r (now (out .entry)) ≡ drop-while (is " ") (out-of len (now (out .entry))) ⌝ }
+{
+    let mut n = len;
+    while 0 < n {
+        if out[n - 1] != b' ' {
+            break;
+        }
+        n -= 1;
+    }
+    n
+}
+
+// Whether nothing is on the line yet.
+pub(crate) fn line_start(out: &[u8], n: usize) -> bool
+    requires { ⌜ n ≤ length (now out) ⌝ }
+    ensures { λ r. ⌜ r ≡ line-start (out-of n (now (out .entry))) ⌝ }
+{
+    if n == 0 {
+        return true;
+    }
+    out[n - 1] == b'\n'
+}
+
+// Whether the written bytes end in two line feeds.
+pub(crate) fn ends_blank(out: &[u8], n: usize) -> bool
+    requires { ⌜ n ≤ length (now out) ⌝ }
+    ensures { λ r. ⌜ r ≡ starts "\n\n" (out-of n (now (out .entry))) ⌝ }
+{
+    if n < 2 {
+        return false;
+    }
+    if out[n - 1] != b'\n' {
+        return false;
+    }
+    out[n - 2] == b'\n'
+}
+
+// Whether the written bytes end in a digit.
+pub(crate) fn ends_digit(out: &[u8], n: usize) -> bool
+    requires { ⌜ n ≤ length (now out) ⌝ }
+    ensures { λ r. ⌜ r ≡ ends-with-digit (out-of n (now (out .entry))) ⌝ }
+{
+    if n == 0 {
+        return false;
+    }
+    let b = out[n - 1];
+    (b'0' <= b) & (b <= b'9')
+}
 
 impl Converter {
     // One ASCII byte more.
@@ -76,63 +128,6 @@ impl Converter {
         }
         self = self.push_number(out, n / 10);
         self.push(out, b'0' + (n % 10) as u8)
-    }
-
-    // No pending space, and no spaces at the output's end.
-    pub(crate) fn unspaced(mut self, out: &[u8]) -> Self
-        requires { ⌜ self .len ≤ length (now out) ⌝ }
-        ensures { λ r. ⌜ state-of r (now (out .entry)) ≡ unspaced (state-of self (now (out .entry))) ⌝ }
-    {
-        let mut n = self.len;
-        while 0 < n {
-            if out[n - 1] != b' ' {
-                break;
-            }
-            n -= 1;
-        }
-        self.len = n;
-        self.space = false;
-        self
-    }
-
-    // Whether nothing is on the line yet.
-    pub(crate) fn line_start(self, out: &[u8]) -> bool
-        requires { ⌜ self .len ≤ length (now out) ⌝ }
-        ensures { λ r. ⌜ r ≡ line-start (state-of self (now (out .entry)) .out) ⌝ }
-    {
-        let n = self.len;
-        if n == 0 {
-            return true;
-        }
-        out[n - 1] == b'\n'
-    }
-
-    // Whether the output ends in two line feeds.
-    pub(crate) fn ends_blank(self, out: &[u8]) -> bool
-        requires { ⌜ self .len ≤ length (now out) ⌝ }
-        ensures { λ r. ⌜ r ≡ starts "\n\n" (state-of self (now (out .entry)) .out) ⌝ }
-    {
-        let n = self.len;
-        if n < 2 {
-            return false;
-        }
-        if out[n - 1] != b'\n' {
-            return false;
-        }
-        out[n - 2] == b'\n'
-    }
-
-    // Whether the output ends in a digit.
-    pub(crate) fn ends_digit(self, out: &[u8]) -> bool
-        requires { ⌜ self .len ≤ length (now out) ⌝ }
-        ensures { λ r. ⌜ r ≡ ends-with-digit (state-of self (now (out .entry)) .out) ⌝ }
-    {
-        let n = self.len;
-        if n == 0 {
-            return false;
-        }
-        let b = out[n - 1];
-        (b'0' <= b) & (b <= b'9')
     }
 
     // A pending space is written.

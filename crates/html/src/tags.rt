@@ -3,6 +3,9 @@ use crate::Converter;
 use crate::Step;
 use crate::Tag;
 use crate::Tagged;
+use crate::output::ends_blank;
+use crate::output::line_start;
+use crate::output::unspaced;
 ghost use mathlib.Core.Path.{_≡_};
 ghost use Prim.Native.Nat.{ℕ, _+_, _^_, _≤_, _<_};
 ghost use mathlib.Core.Bool.{Bool, true, false};
@@ -19,14 +22,16 @@ impl Converter {
         requires { ⌜ self .len + 2 ≤ length (now out) ⌝ }
         ensures { λ r. ⌜ state-of r (now (out .exit)) ≡ block (state-of self (now (out .entry))) ⌝ }
     {
-        self = self.unspaced(out);
-        if self.len == 0 {
+        let n = unspaced(out, self.len);
+        self.len = n;
+        self.space = false;
+        if n == 0 {
             return self;
         }
-        if self.ends_blank(out) {
+        if ends_blank(out, n) {
             return self;
         }
-        if self.line_start(out) {
+        if line_start(out, n) {
             return self.push(out, b'\n');
         }
         self.push_all(out, b"\n\n")
@@ -36,8 +41,10 @@ impl Converter {
         requires { ⌜ self .len + 1 ≤ length (now out) ⌝ }
         ensures { λ r. ⌜ state-of r (now (out .exit)) ≡ newline (state-of self (now (out .entry))) ⌝ }
     {
-        self = self.unspaced(out);
-        if self.line_start(out) {
+        let n = unspaced(out, self.len);
+        self.len = n;
+        self.space = false;
+        if line_start(out, n) {
             return self;
         }
         self.push(out, b'\n')

@@ -1,26 +1,23 @@
--- `Converter::unspaced` meets its contract: the spaces passed are those that go.
+-- `unspaced` meets its contract. The spaces passed are those that go.
 -- Assumes nothing.
 use borrow.Author.Needs.{needs}
 use mathlib.Core.Path.{_≡_, refl, sym, ap, _∙_}
 use native.Mathlib.Omega.{arith}
 use denote.Ref.{now}
-use Rattle.html.specs.Struct.{state-of, out-of, unspaced}
+use Rattle.html.specs.Struct.{out-of}
 use Rattle.html.proofs.OutLaws.{spaces-more, spaces-stop, out-none}
 use Prim.Native.Nat.{ℕ, _≤_, _+_, _-_}
-use mathlib.Core.List.{List}
-use mathlib.Core.Bool.{false}
 use Rattle.text.specs.Words.{drop-while, is}
-use Rattle.html.specs.State.{with-out}
-use Rattle.html.proofs.Converter.unspaced.Statement.{statement}
-use Rattle.html.proofs.Converter.unspaced.Tie as tie
-use Rattle.html.proofs.Converter.unspaced.Reads as reads
-use Rattle.html.proofs.Converter.unspaced.Lts as lts
+use Rattle.html.proofs.output.unspaced.Statement.{statement}
+use Rattle.html.proofs.output.unspaced.Tie as tie
+use Rattle.html.proofs.output.unspaced.Reads as reads
+use Rattle.html.proofs.output.unspaced.Lts as lts
 
 abbrev Inv-loop : tie.InvT-loop
-Inv-loop self out n₀ n = (n ≤ self .len) × (drop-while (is " ") (out-of n out) ≡ drop-while (is " ") (out-of (self .len) out))
+Inv-loop out len n₀ n = (n ≤ len) × (drop-while (is " ") (out-of n out) ≡ drop-while (is " ") (out-of len out))
 
 abbrev μ-loop : tie.MeasureT-loop
-μ-loop self out n₀ n = n
+μ-loop out len n₀ n = n
 
 loop-holds : tie.Need-loop-holds Inv-loop μ-loop
 loop-holds c = (omega arith, refl)
@@ -41,12 +38,11 @@ loop-again : tie.Need-loop-again Inv-loop μ-loop
 loop-again c = let l = c .before .before .before .loop in let a = c .before .before .before .before .args in (omega arith, sym (spaces-more (now (a .out)) (l .n) (omega arith) (c .if1 .left)) ∙ l .inv .1)
 
 returns : tie.Need-returns Inv-loop μ-loop
-unfolding state-of unspaced drop-while
-returns c = let l = c .before .loop in let a = c .before .before .args in let z = out-none (l .n) (now (a .out)) (omega arith) in ap (λ (o : List ℕ). with-out o false (state-of (a .self) (now (a .out)))) (z ∙ sym (ap (drop-while (is " ")) z) ∙ l .inv .1)
+unfolding drop-while
+returns c = let l = c .before .loop in let a = c .before .before .args in let z = out-none (l .n) (now (a .out)) (omega arith) in z ∙ sym (ap (drop-while (is " ")) z) ∙ l .inv .1
 
 returns-2 : tie.Need-returns-2 Inv-loop μ-loop
-unfolding state-of unspaced
-returns-2 c = let l = c .before .before .before .loop in let a = c .before .before .before .before .args in ap (λ (o : List ℕ). with-out o false (state-of (a .self) (now (a .out)))) (sym (spaces-stop (now (a .out)) (l .n) (omega arith) (c .if1 .taken)) ∙ l .inv .1)
+returns-2 c = let l = c .before .before .before .loop in let a = c .before .before .before .before .args in sym (spaces-stop (now (a .out)) (l .n) (omega arith) (c .if1 .taken)) ∙ l .inv .1
 
 pub unspaced-spec : {M : Type 1} → statement M
 unspaced-spec =
