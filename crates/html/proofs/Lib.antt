@@ -3,3 +3,4 @@ pub mod NumberLaws
 pub mod GrowLaws
 pub mod StepLaws
 pub mod NameLaws
+pub mod TextLaws

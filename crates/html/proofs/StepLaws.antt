@@ -13,12 +13,13 @@ use lib.ListN.{length, getD, set, replicate}
 use lib.Seq.{getD-set-same, getD-set-other}
 use borrow.Author.Tests.{le-leb, lt-leb}
 use Rattle.text.specs.Words.{if_then_else_, drop-while, is, is-empty, starts, repeat, str}
-use Rattle.text.specs.Utf8.{size}
+use Rattle.text.specs.Utf8.{utf8, size}
+use Rattle.text.proofs.Utf8.{utf8-1}
 use Rattle.text.specs.Decimal.{decimal}
 use Rattle.text.proofs.Tests.{on}
 use Rattle.html.specs.State.{State, with-out, with-lists, with-pre, push-str, line-start, block, newline, spaced, marks, list-changed, item, tag, ul, ol, other, code, Tag}
 use Rattle.html.specs.Page.{listed, is-list}
-use Rattle.html.specs.Struct.{state-of, out-of, upto, lists-of, number, unspaced, marks-of, ended, heading-of, list-tag, step-means, tagged}
+use Rattle.html.specs.Struct.{state-of, out-of, upto, lists-of, number, with-space, unspaced, marks-of, ended, heading-of, list-tag, step-means, tagged}
 use Rattle.html.specs.declared.Converter.{Converter}
 use Rattle.html.specs.declared.Tagged.{Tagged}
 use Rattle.html.specs.declared.Step.{Step}
@@ -293,3 +294,29 @@ newline-same a r w w' e = lists-is r w' _ e ∙ newline-lists (state-of a w) ∙
 pub item-tag : (a r : Converter) (w w' : List ℕ) → state-of r w' ≡ newline (state-of a w) → item (lists-of r) (state-of r w') ≡ tag (step-means Item) false (state-of a w)
 unfolding tag
 item-tag a r w w' e = ap (λ (l : List ℕ). item l (state-of r w')) (newline-same a r w w' e ∙ lists-is a w _ refl) ∙ ap (item (state-of a w .lists)) e
+
+-- ---- a pending space, written
+abbrev pub pending : Bool → ℕ
+pending b = if b then 1 else 0
+
+pub spaced-with : (s : State) (o : List ℕ) (sp : Bool) → spaced (with-out o sp s) ≡ with-out (with-space sp o) false s
+unfolding spaced
+spaced-with s o true = refl
+spaced-with s o false = refl
+
+pub spaced-state : (a : Converter) (n : ℕ) (w w' : List ℕ) → out-of n w' ≡ with-space (a .space) (out-of (a .len) w)
+    → with-out (out-of n w') false (state-of a w) ≡ spaced (state-of a w)
+unfolding state-of
+spaced-state a n w w' e = ap (λ (o : List ℕ). with-out o false (state-of a w)) e ∙ sym (spaced-with (state-of a w) (out-of (a .len) w) (a .space))
+
+pub out-len : (r : ℕ) (w o : List ℕ) → out-of r w ≡ o → r ≡ size o
+out-len r w o e = sym (size-out r w) ∙ ap size e
+
+pub spaced-len : (r n : ℕ) (w w' : List ℕ) (sp : Bool) → out-of r w' ≡ with-space sp (out-of n w) → r ≡ n + pending sp
+unfolding size
+spaced-len r n w w' true e = omega (arith, out-len r w' _ e, size-out n w, ap length (utf8-1 32 (omega arith)))
+spaced-len r n w w' false e = omega (arith, out-len r w' _ e, size-out n w)
+
+pub put-len : (r n c : ℕ) (w w' : List ℕ) → out-of r w' ≡ c ∷ out-of n w → r ≡ n + length (utf8 c)
+unfolding size
+put-len r n c w w' e = omega (arith, out-len r w' _ e, size-out n w)

@@ -3,3 +3,4 @@ pub mod Page
 pub mod Calls
 pub mod Struct
 pub mod Names
+pub mod Pen

@@ -57,6 +57,10 @@ state-of c w = record { out = out-of (c .len) w; lists = lists-of c; pre = c .pr
 unfoldable pub unspaced : State → State
 unspaced c = with-out (drop-while (is " ") (c .out)) false c
 
+-- a pending space, written
+abbrev pub with-space : Bool → List ℕ → List ℕ
+with-space space o = if space then 32 ∷ o else o
+
 -- `marks`, for the bytes of a mark
 unfoldable pub marks-of : List ℕ → Bool → State → State
 marks-of m closing c = push-str m (if closing then c else spaced c)

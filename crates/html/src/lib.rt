@@ -8,6 +8,7 @@ ghost use Rattle.html.specs.Struct.{state-of};
 mod names;
 mod output;
 mod tags;
+mod words;
 
 // The tag whose text is being skipped.
 pub enum Skip {

@@ -8,8 +8,8 @@ ghost use Rattle.text.specs.Words.{is, starts, drop-while};
 ghost use Rattle.text.specs.Utf8.{IsScalar, utf8};
 ghost use Rattle.text.specs.Decimal.{decimal};
 ghost use Rattle.text.proofs.AsciiLaws.{Ascii};
-ghost use Rattle.html.specs.State.{push-str, line-start, spaced, ends-with-digit};
-ghost use Rattle.html.specs.Struct.{state-of, out-of};
+ghost use Rattle.html.specs.State.{push-str, line-start, ends-with-digit};
+ghost use Rattle.html.specs.Struct.{state-of, out-of, with-space};
 
 // The written bytes, without the spaces at their end.
 pub(crate) fn unspaced(out: &[u8], len: usize) -> usize
@@ -63,6 +63,31 @@ pub(crate) fn ends_digit(out: &[u8], n: usize) -> bool
     (b'0' <= b) & (b <= b'9')
 }
 
+// A pending space, written.
+pub(crate) fn spaced(out: &mut [u8], n: usize, space: bool) -> usize
+    requires { ⌜ n < length (now out) ⌝ }
+    ensures { λ r. ⌜ out-of r (now (out .exit)) ≡ with-space space (out-of n (now (out .entry))) ⌝ }
+{
+    if space {
+        out[n] = b' ';
+        return n + 1;
+    }
+    n
+}
+
+// A character more.
+pub(crate) fn put_char(out: &mut [u8], n: usize, c: u32) -> usize
+    requires { ⌜ (n + length (utf8 c) ≤ length (now out)) × IsScalar c ⌝ }
+    ensures { λ r. ⌜ out-of r (now (out .exit)) ≡ c ∷ out-of n (now (out .entry)) ⌝ }
+{
+    if c < 0x80 {
+        out[n] = c as u8;
+        return n + 1;
+    }
+    let k = text::put(out, n, c);
+    n + k
+}
+
 impl Converter {
     // One ASCII byte more.
     pub(crate) fn push(mut self, out: &mut [u8], byte: u8) -> Self
@@ -72,17 +97,6 @@ impl Converter {
         let at = self.len;
         out[at] = byte;
         self.len = at + 1;
-        self
-    }
-
-    // A character more.
-    pub(crate) fn push_char(mut self, out: &mut [u8], c: u32) -> Self
-        requires { ⌜ (self .len + length (utf8 c) ≤ length (now out)) × IsScalar c ⌝ }
-        ensures { λ r. ⌜ state-of r (now (out .exit)) ≡ push-str (c ∷ []) (state-of self (now (out .entry))) ⌝ }
-    {
-        let at = self.len;
-        let n = text::put(out, at, c);
-        self.len = at + n;
         self
     }
 
@@ -128,18 +142,5 @@ impl Converter {
         }
         self = self.push_number(out, n / 10);
         self.push(out, b'0' + (n % 10) as u8)
-    }
-
-    // A pending space is written.
-    pub(crate) fn spaced(mut self, out: &mut [u8]) -> Self
-        requires { ⌜ self .len < length (now out) ⌝ }
-        ensures { λ r. ⌜ state-of r (now (out .exit)) ≡ spaced (state-of self (now (out .entry))) ⌝ }
-    {
-        if self.space {
-            self = self.push(out, b' ');
-            self.space = false;
-            return self;
-        }
-        self
     }
 }

@@ -5,6 +5,7 @@ use crate::Tag;
 use crate::Tagged;
 use crate::output::ends_blank;
 use crate::output::line_start;
+use crate::output::spaced;
 use crate::output::unspaced;
 ghost use mathlib.Core.Path.{_≡_};
 ghost use Prim.Native.Nat.{ℕ, _+_, _^_, _≤_, _<_};
@@ -57,7 +58,9 @@ impl Converter {
         if closing {
             return self.push_all(out, mark);
         }
-        self = self.spaced(out);
+        let n = spaced(out, self.len, self.space);
+        self.len = n;
+        self.space = false;
         self.push_all(out, mark)
     }
 

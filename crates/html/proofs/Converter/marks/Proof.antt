@@ -3,16 +3,17 @@
 use mathlib.Core.Path.{_≡_, refl, sym, ap, _∙_}
 use native.Mathlib.Omega.{arith}
 use denote.Ref.{now}
-use Rattle.html.specs.Struct.{marks-of}
-use Rattle.html.proofs.GrowLaws.{grown, grow-spaced}
-use Rattle.html.specs.State.{spaced, push-str}
+use Rattle.html.specs.Struct.{marks-of, state-of}
+use Rattle.html.proofs.StepLaws.{spaced-state, spaced-len}
+use Rattle.html.proofs.TextLaws.{pending-most}
+use Rattle.html.specs.State.{push-str}
 use borrow.Author.Needs.{needs}
 use Rattle.html.proofs.Converter.marks.Statement.{statement}
 use Rattle.html.proofs.Converter.marks.Tie as tie
 use Rattle.html.proofs.Converter.marks.Reads as reads
 use Rattle.html.proofs.Converter.marks.Lts as lts
 use Rattle.html.proofs.Converter.push_all.Reads as push-all-reads
-use Rattle.html.proofs.Converter.spaced.Reads as spaced-reads
+use Rattle.html.proofs.output.spaced.Reads as spaced-reads
 
 push-all-requires : tie.Need-push-all-requires
 push-all-requires c κs = search needs
@@ -28,14 +29,14 @@ spaced-requires : tie.Need-spaced-requires
 spaced-requires c κs = search needs
 
 push-all-requires-2 : tie.Need-push-all-requires-2
-push-all-requires-2 c κs = let u = grown spaced 1 grow-spaced _ _ _ _ (c .before .before .before .spaced .ensures) in (omega arith, c .before .before .before .before .before .before .before .before .pre .1)
+push-all-requires-2 c κs = let k = spaced-len (c .before .before .before .spaced .result) (c .before .before .before .before .before .before .before .before .args .self .len) (now (c .before .before .before .before .before .before .before .before .args .out)) _ (c .before .before .before .before .before .before .before .before .args .self .space) (c .before .before .before .spaced .ensures) in let m = pending-most (c .before .before .before .before .before .before .before .before .args .self .space) in (omega arith, c .before .before .before .before .before .before .before .before .pre .1)
 
 same-length-2 : tie.Need-same-length-2
 same-length-2 c = search needs
 
 returns-2 : tie.Need-returns-2
-unfolding marks-of
-returns-2 c = rw (c .before .before .before .before .before .before .before .before .if1 .left) (c .before .before .push-all2 .ensures ∙ ap (push-str (now (c .before .before .before .before .before .before .before .before .before .before .before .args .mark))) (c .before .before .before .before .before .before .spaced .ensures))
+unfolding marks-of state-of
+returns-2 c = rw (c .before .before .before .before .before .before .before .before .if1 .left) (c .before .before .push-all2 .ensures ∙ ap (push-str (now (c .before .before .before .before .before .before .before .before .before .before .before .args .mark))) (spaced-state (c .before .before .before .before .before .before .before .before .before .before .before .args .self) (c .before .before .before .before .before .before .spaced .result) (now (c .before .before .before .before .before .before .before .before .before .before .before .args .out)) _ (c .before .before .before .before .before .before .spaced .ensures)))
 
 pub marks-spec : {M : Type 1} → statement M
 marks-spec =
