@@ -4,3 +4,5 @@ pub mod GrowLaws
 pub mod StepLaws
 pub mod NameLaws
 pub mod TextLaws
+pub mod SkipLaws
+pub mod CloseLaws

@@ -199,7 +199,7 @@ says-other [] h = refl
 says-other (x ∷ n) h = simp (ne-eqb 98 x (h .not-b), ne-eqb 104 x (h .not-h), ne-eqb 112 x (h .not-p), ne-eqb 115 x (h .not-s), ne-eqb 116 x (h .not-t))
 
 -- ---- what the name means in notes.rs
-same-is : (s t : List ℕ) → same s t ≡ true → s ≡ t
+pub same-is : (s t : List ℕ) → same s t ≡ true → s ≡ t
 same-is [] [] e = refl
 same-is [] (d ∷ t) e = let y : _≡_ {A = ℕ} 0 1 = cc in absurd (omega arith)
 same-is (c ∷ s) [] e = let y : _≡_ {A = ℕ} 0 1 = cc in absurd (omega arith)

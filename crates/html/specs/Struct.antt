@@ -7,7 +7,7 @@ use mathlib.Core.List.{List, [], _∷_, _++_, reverse, reverseAux, tail}
 use mathlib.Core.Option.{Option, none, some}
 use lib.Dec.{ltb, leb}
 use lib.ListN.{length, getD, drop}
-use Rattle.text.specs.Words.{if_then_else_, case, str, repeat, is, drop-while}
+use Rattle.text.specs.Words.{if_then_else_, case, str, repeat, is, starts, drop-while}
 use Rattle.text.specs.Utf8.{chars}
 use Rattle.html.specs.State.{State, with-out, push-str, spaced, block, list-changed, heading, marked, para, pre, br, ul, ol, li, tr, cell, code, other}
 use Rattle.html.specs.State as state
@@ -111,3 +111,8 @@ left s (read n d) = some (drop n s, d)
 
 unfoldable pub turned : Turned → List ℕ → List ℕ → Option (List ℕ × State)
 turned r w html = if r .ok then some (chars (drop (r .next) html), state-of (r .state) w) else none
+
+-- what is left after the first `-->`
+unfoldable pub closed : List ℕ → List ℕ
+closed [] = []
+closed (x ∷ s) = let later = closed s in if starts "-->" (x ∷ s) then drop 3 (x ∷ s) else later

@@ -7,6 +7,7 @@ ghost use Rattle.html.specs.Struct.{state-of};
 
 mod names;
 mod output;
+mod page;
 mod tags;
 mod words;
 
