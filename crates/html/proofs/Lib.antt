@@ -6,3 +6,4 @@ pub mod NameLaws
 pub mod TextLaws
 pub mod SkipLaws
 pub mod CloseLaws
+pub mod TurnLaws
