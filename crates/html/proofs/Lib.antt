@@ -7,3 +7,4 @@ pub mod TextLaws
 pub mod SkipLaws
 pub mod CloseLaws
 pub mod TurnLaws
+pub mod FitLaws

@@ -22,7 +22,7 @@ use Rattle.reference.specs.Unescape.{reference, unescape}
 use Rattle.reference.specs.Answers.{answer}
 use Rattle.reference.specs.declared.Ampersand.{Ampersand}
 use Rattle.reference.specs.declared.Ampersand.the-variants.{Replaced, Left}
-use Rattle.reference.proofs.Laws.{left-at, replaced-at, read-is, unescape-nil, unescape-other}
+use Rattle.reference.proofs.Laws.{left-at, replaced-at, read-is, unescape-nil, unescape-other, unescape-size}
 use Rattle.html.specs.State.{State, with-out, line-start, ends-with-digit, special, escape, put, spaced, next, put-all, text}
 use Rattle.html.specs.Struct.{out-of, with-space}
 use Rattle.html.specs.Pen.{pen-state, paused, opens, blank, Unescaped}
@@ -276,3 +276,46 @@ module _ (s : List ℕ) (i : ℕ) (l : i < length s) (h : Scalars (chars (drop i
         bound = rw (f, e) (t .bound);
         valid = v .1;
       }
+
+-- ---- how much a text adds, and that it leaves the lists as they are
+size-low : (x : ℕ) → 1 ≤ length (utf8 x)
+size-low x = utf8-size x .0
+
+pause-most : (c : State) (b : Bool) → weight (with-out (c .out) b c) ≤ weight c + 1
+unfolding weight
+pause-most c b = omega (arith, pending-most b)
+
+next-weight : (first : Bool) (x : ℕ) (c : State) → weight (next first x c .1) ≤ weight c + 2 * length (utf8 x)
+unfolding next
+next-weight first x c =
+    let a = size-low x in
+    on (λ (n : Bool × State). weight (n .1) ≤ weight c + 2 * length (utf8 x)) (not (c .pre) && is-space x)
+    (λ _. omega (arith, pause-most c (not (line-start (c .out)))))
+    (λ _. omega (arith, put-weight first x (spaced c), spaced-weight c))
+
+put-all-weight : (first : Bool) (xs : List ℕ) (c : State) → weight (put-all first xs c) ≤ weight c + 2 * size xs
+unfolding put-all size
+put-all-weight first [] c = omega arith
+put-all-weight first (x ∷ xs) c = omega (arith, put-all-weight (next first x c .0) xs (next first x c .1), next-weight first x c)
+
+spaced-keeps : (c : State) → spaced c .lists ≡ c .lists
+unfolding spaced
+spaced-keeps c = on (λ (d : State). d .lists ≡ c .lists) (c .space) (λ _. refl) (λ _. refl)
+
+next-lists : (first : Bool) (x : ℕ) (c : State) → next first x c .1 .lists ≡ c .lists
+unfolding next put
+next-lists first x c = on (λ (n : Bool × State). n .1 .lists ≡ c .lists) (not (c .pre) && is-space x) (λ _. refl) (λ _. spaced-keeps c)
+
+put-all-lists : (first : Bool) (xs : List ℕ) (c : State) → put-all first xs c .lists ≡ c .lists
+unfolding put-all
+put-all-lists first [] c = refl
+put-all-lists first (x ∷ xs) c = put-all-lists (next first x c .0) xs (next first x c .1) ∙ next-lists first x c
+
+pub text-size : (raw : List ℕ) (c : State) → size (text raw c .out) ≤ size (c .out) + 1 + 2 * size raw
+unfolding text weight
+text-size raw c =
+    omega (arith, put-all-weight true (unescape 0 raw) c, unescape-size 0 raw, pending-most (c .space))
+
+pub text-lists : (raw : List ℕ) (c : State) → text raw c .lists ≡ c .lists
+unfolding text
+text-lists raw c = put-all-lists true (unescape 0 raw) c
