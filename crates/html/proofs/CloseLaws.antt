@@ -134,13 +134,17 @@ closed-next s j l h =
 pub closed-past : (s : List ℕ) (j : ℕ) → length s ≤ j → closed (drop j s) ≡ drop j s
 closed-past s j h = rw (drop-of-length-le s h) closed-nil
 
+starts-long : (p xs : List ℕ) → starts-with p xs ≡ true → length p ≤ length xs
+starts-long [] xs e = omega arith
+starts-long (d ∷ p) [] e = let z : _≡_ {A = ℕ} 0 1 = cc in absurd (omega arith)
+starts-long (d ∷ p) (x ∷ xs) e = omega (arith, starts-long p xs (and-true (eqb x d) (starts-with p xs) e .1))
+
+-- what stands at an offset has room there
+pub starts-room : (p s : List ℕ) (j : ℕ) → 1 ≤ length p → starts-with p (drop j s) ≡ true → j + length p ≤ length s
+starts-room p s j l h = omega (arith, starts-long p (drop j s) h, length-drop j s)
+
 pub arrow-room : (s : List ℕ) (j : ℕ) → starts "-->" (drop j s) ≡ true → j + 3 ≤ length s
-arrow-room s j h = omega (arith, starts-long arrow (drop j s) h, length-drop j s)
-  where
-    starts-long : (p xs : List ℕ) → starts-with p xs ≡ true → length p ≤ length xs
-    starts-long [] xs e = omega arith
-    starts-long (d ∷ p) [] e = let z : _≡_ {A = ℕ} 0 1 = cc in absurd (omega arith)
-    starts-long (d ∷ p) (x ∷ xs) e = omega (arith, starts-long p xs (and-true (eqb x d) (starts-with p xs) e .1))
+arrow-room s j h = starts-room arrow s j (omega arith) h
 
 -- ---- a text without the spaces after it, and at both ends
 end-step : (s : List ℕ) (e : ℕ) → e ≤ length s → ((f : ℕ) → f < e → (k : ℕ) × (trim-end (chars (take f s)) ≡ chars (take k s)))

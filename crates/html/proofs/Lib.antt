@@ -6,5 +6,5 @@ pub mod NameLaws
 pub mod TextLaws
 pub mod SkipLaws
 pub mod CloseLaws
-pub mod TurnLaws
 pub mod FitLaws
+pub mod TurnLaws

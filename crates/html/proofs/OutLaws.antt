@@ -75,7 +75,7 @@ out-put n w c h s =
     ap (λ (x : List ℕ). reverse (chars x)) e ∙ snoc-char (written n w) c s
 
 -- ---- how many bytes there are
-size-encode : (cs : List ℕ) → size cs ≡ length (encode cs)
+pub size-encode : (cs : List ℕ) → size cs ≡ length (encode cs)
 unfolding size
 size-encode [] = refl
 size-encode (c ∷ cs) = rw (size-encode cs) (sym (length-append (utf8 c) (encode cs)))

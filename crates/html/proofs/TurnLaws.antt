@@ -1,6 +1,6 @@
 -- One turn of the loop over a page: its cases, in bytes, and what the loop does with it.
 -- Assumes nothing.
-use Prim.Native.Nat.{ℕ, zero, suc, _+_, _-_, _≤_, _<_}
+use Prim.Native.Nat.{ℕ, zero, suc, _+_, _-_, _*_, _≤_, _<_}
 use native.Mathlib.Omega.{arith}
 use native.Mathlib.Numerals.{add-one, sub-one}
 use mathlib.Core.Path.{_≡_, refl, sym, ap, _∙_, subst}
@@ -8,7 +8,7 @@ use mathlib.Core.Bool.{Bool, true, false, cond, _&&_}
 use mathlib.Core.Option.{Option, some, none}
 use mathlib.Core.List.{List, [], _∷_, _++_, append-nil}
 use lib.Dec.{eqb, ltb}
-use lib.ListN.{length, getD, take, drop, length-append, length-drop, drop-of-length-le}
+use lib.ListN.{length, getD, take, drop, length-append, length-take, length-drop}
 use lib.Seq.{drop-cons, drop-drop, drop-append-seam, take-append-seam, drop-append-add, drop-length, take-length, take-all}
 use borrow.Author.Tests.{eqb-true, lt-ltb, le-ltb, ltb-true, ltb-false}
 use Rattle.text.specs.Words.{if_then_else_, _>>=_, case, str, starts-with, starts, index, find}
@@ -17,16 +17,19 @@ use Rattle.text.specs.Trim.{trim}
 use Rattle.text.specs.Find.{found}
 use Rattle.text.specs.declared.Found.the-variants.{Here, Nowhere}
 use Rattle.text.proofs.Tests.{on}
-use Rattle.text.proofs.Laws.{chars-nil, advance-end}
+use Rattle.text.proofs.Laws.{chars-nil, advance-end, encode-chars}
 use Rattle.text.proofs.AsciiLaws.{chars-ascii, starts-chars}
 use Rattle.text.proofs.FindLaws.{until, since, until-since, chars-until, chars-since, index-until, IsHere, found-here, found-nowhere}
 use Rattle.html.specs.State.{State}
 use Rattle.html.specs.Page.{inside, words, Turn, read, refused, tag-read, comment, a-tag, markup, turn, on-turn, loop}
-use Rattle.html.specs.Struct.{state-of, tagged, turned, left, closed}
+use Rattle.html.specs.Struct.{state-of, lists-of, tagged, turned, left, closed}
 use Rattle.html.specs.declared.Tagged.{Tagged}
 use Rattle.html.specs.declared.Converter.{Converter}
-use Rattle.html.proofs.TextLaws.{scalars-drop}
-use Rattle.html.proofs.CloseLaws.{drop-chars, closed-chars, comment-left, chars-trim}
+use Rattle.html.proofs.OutLaws.{size-encode}
+use Rattle.html.proofs.GrowLaws.{len-of}
+use Rattle.html.proofs.StepLaws.{lists-is, like}
+use Rattle.html.proofs.FitLaws.{words-size, words-lists}
+use Rattle.html.proofs.CloseLaws.{drop-chars, closed-chars, comment-left, chars-trim, starts-room}
 
 -- ---- the first b of a text
 until-all : (b : ℕ) (s : List ℕ) → since b s ≡ [] → until b s ≡ s
@@ -304,3 +307,34 @@ kept s l c d e = go (turn s c) refl e
     go (read n d') q e =
         let f : _≡_ {A = List ℕ × State} (l, d) (drop n s, d') = some-same e in
         record { count = n; is = q ∙ ap (read n) (sym (ap (λ (p : List ℕ × State). p .1) f)); rest = sym (ap (λ (p : List ℕ × State). p .0) f) }
+
+-- ---- what a call has to know of the parts of a page
+pub part-most : (k i : ℕ) (h : List ℕ) → length (take k (drop i h)) ≤ length h
+part-most k i h = omega (arith, length-take k (drop i h), length-drop i h)
+
+pub rest-scalars : (h : List ℕ) (at : ℕ) → Scalars (chars (drop at h)) → Scalars (chars (take (length h - at) (drop at h)))
+rest-scalars h at s = rw (take-all (length h - at) (drop at h) (omega (arith, length-drop at h))) s
+
+pub piece-scalars : (h : List ℕ) (at j : ℕ) (c : State) → IsHere h at 60 j → Scalars (chars (drop at h)) → Scalars (chars (take (j - at) (drop at h)))
+piece-scalars h at j c f s = rw (piece-is h at c j f) (scalars-until 60 (chars (drop at h)) s)
+
+pub mark-room : (s : List ℕ) (j : ℕ) (t : Bool) → t ≡ starts "<!--" (drop j s) → t ≡ true → j + 4 ≤ length s
+mark-room s j t e y = starts-room (60 ∷ 33 ∷ 45 ∷ 45 ∷ []) s j (omega arith) (sym e ∙ y)
+
+pub size-chars : (bs : List ℕ) → size (chars bs) ≡ length bs
+size-chars bs = size-encode (chars bs) ∙ ap length (encode-chars bs)
+
+-- after the text of a turn the tag has room
+pub record Room (a r : Converter) (n : ℕ) : Type 0 where
+  pub len : r .len ≤ a .len + 1 + 2 * n
+  pub lists : lists-of r ≡ lists-of a
+  pub depth : r .depth ≡ a .depth
+
+pub words-room : (a r : Converter) (w w' bs : List ℕ) → state-of r w' ≡ words (chars bs) (state-of a w) → Room a r (length bs)
+words-room a r w w' bs e =
+    let l = lists-is r w' _ e ∙ words-lists (chars bs) (state-of a w) ∙ sym (lists-is a w _ refl) in
+    record {
+      len = omega (arith, len-of r w' _ e, words-size (chars bs) (state-of a w), len-of a w _ refl, size-chars bs);
+      lists = l;
+      depth = like a r l;
+    }

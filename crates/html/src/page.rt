@@ -11,6 +11,7 @@ use text::Found;
 ghost use mathlib.Core.Path.{_≡_};
 ghost use Prim.Native.Nat.{ℕ, _+_, _*_, _^_, _≤_, _<_};
 ghost use mathlib.Core.List.{List};
+ghost use mathlib.Core.Bool.{true};
 ghost use lib.ListN.{length, drop};
 ghost use Rattle.text.specs.Utf8.{Scalars, chars};
 ghost use Rattle.html.specs.State.{new, with-skip};
@@ -103,6 +104,50 @@ impl Converter {
         }
         self
     }
+
+    // One turn: the text up to a `<`, and the comment or the tag that starts there.
+    fn turn(self, out: &mut [u8], html: &[u8], at: usize) -> Turned
+        requires { ⌜ (at < length (now html)) × Scalars (chars (drop at (now html))) ⌝ }
+        requires { ⌜ self .depth ≤ 64 ⌝ }
+        requires { ⌜ self .len + 151 + 2 * length (now html) ≤ length (now out) ⌝ }
+        requires { ⌜ number (lists-of self) + 1 < 2 ^ 64 ⌝ }
+        ensures { λ r. ⌜ turned r (now (out .exit)) (now (html .entry)) ≡ left (chars (drop at (now (html .entry)))) (turn (chars (drop at (now (html .entry)))) (state-of self (now (out .entry)))) ⌝ }
+        ensures { λ r. ⌜ (at < r .next) × (r .next ≤ length (now (html .entry))) ⌝ }
+    {
+        let Found::Here(lt) = text::find(html, at, b'<') else {
+            let n = html.len();
+            let c = self.words(out, &html[at..n]);
+            return Turned {
+                ok: true,
+                next: n,
+                state: c,
+            };
+        };
+        let c = self.words(out, &html[at..lt]);
+        if text::starts_with(html, lt, b"<!--") {
+            let n = comment_end(html, lt + 4);
+            return Turned {
+                ok: true,
+                next: n,
+                state: c,
+            };
+        }
+        let Found::Here(gt) = text::find(html, lt, b'>') else {
+            return Turned {
+                ok: true,
+                next: html.len(),
+                state: c,
+            };
+        };
+        let from = lt + 1;
+        let t = c.inside(out, text::trim(&html[from..gt]));
+        let s = t.state;
+        Turned {
+            ok: t.ok,
+            next: gt + 1,
+            state: s,
+        }
+    }
 }
 
 // Where a comment ends: after the first `-->` from i on, or at the end of the page.
@@ -118,4 +163,30 @@ fn comment_end(html: &[u8], i: usize) -> usize
         j += 1;
     }
     j
+}
+
+// All turns, until the page or the room for notes is used up.
+pub(crate) fn convert(out: &mut [u8], html: &[u8]) -> Tagged
+    requires { ⌜ (2 * length (now html) + 16384 ≤ length (now out)) × Scalars (chars (now html)) ⌝ }
+    ensures { λ r. ⌜ tagged r (now (out .exit)) ≡ loop 0 (chars (now (html .entry))) new ⌝ }
+    ensures { λ r. ⌜ (r .ok ≡ true → r .state .len ≤ length (now (out .exit))) ⌝ }
+{
+    let mut c = Converter::new();
+    let mut at = 0;
+    while at < html.len() {
+        if Converter::MAX_OUT <= c.len {
+            return Tagged { ok: true, state: c };
+        }
+        let t = c.turn(out, html, at);
+        let s = t.state;
+        if !t.ok {
+            return Tagged {
+                ok: false,
+                state: s,
+            };
+        }
+        c = s;
+        at = t.next;
+    }
+    Tagged { ok: true, state: c }
 }
