@@ -8,3 +8,4 @@ pub mod SkipLaws
 pub mod CloseLaws
 pub mod FitLaws
 pub mod TurnLaws
+pub mod LoopLaws
