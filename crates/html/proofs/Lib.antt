@@ -9,3 +9,4 @@ pub mod CloseLaws
 pub mod FitLaws
 pub mod TurnLaws
 pub mod LoopLaws
+pub mod FinishLaws

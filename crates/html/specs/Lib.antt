@@ -4,3 +4,4 @@ pub mod Calls
 pub mod Struct
 pub mod Names
 pub mod Pen
+pub mod Answers

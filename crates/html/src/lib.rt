@@ -3,13 +3,30 @@ ghost use mathlib.Core.Path.{_≡_};
 ghost use Prim.Native.Nat.{ℕ};
 ghost use mathlib.Core.List.{List};
 ghost use Rattle.html.specs.State.{new};
+ghost use lib.ListN.{length};
+ghost use Rattle.text.specs.Outcome.{number, returned};
 ghost use Rattle.html.specs.Struct.{state-of};
+ghost use Rattle.html.specs.Calls.{html-to-markdown-call};
+ghost use Rattle.html.specs.Answers.{answer-number, answer-length, result-after, WorkKept};
 
+mod finish;
 mod names;
 mod output;
 mod page;
 mod tags;
 mod words;
+
+use finish::finish;
+use page::convert;
+
+// What `html_to_markdown` answers: the Markdown's length, or why there is none.
+pub enum Answer {
+    Length(usize),
+    NotUtf8,
+    SmallWork,
+    SmallResult,
+    TooManyLists,
+}
 
 // The tag whose text is being skipped.
 pub enum Skip {
@@ -90,4 +107,29 @@ impl Converter {
             skip: Skip::Nothing,
         }
     }
+}
+
+// GitHub's release HTML as Markdown with only headings, emphasis, code and lists, in the front of `result`. The output is built in `work`.
+pub fn html_to_markdown(page: &[u8], work: &mut [u8], result: &mut [u8]) -> Answer
+    ensures { λ r. ⌜ (answer-number r ≡ number (html-to-markdown-call (now (page .entry)) (length (now (work .entry))) (length (now (result .entry))))) × (answer-length r ≡ returned (html-to-markdown-call (now (page .entry)) (length (now (work .entry))) (length (now (result .entry))))) ⌝ }
+    ensures { λ r. ⌜ now (result .exit) ≡ result-after (html-to-markdown-call (now (page .entry)) (length (now (work .entry))) (length (now (result .entry)))) (now (result .entry)) ⌝ }
+    ensures { λ r. ⌜ WorkKept (html-to-markdown-call (now (page .entry)) (length (now (work .entry))) (length (now (result .entry)))) (now (work .entry)) (now (work .exit)) ⌝ }
+{
+    if !text::is_utf8(page) {
+        return Answer::NotUtf8;
+    }
+    let n = text::cut_len(page, Converter::MAX_HTML);
+    if work.len() < 2 * n + 16_384 {
+        return Answer::SmallWork;
+    }
+    if result.len() < 4 * Converter::MAX_NOTES {
+        return Answer::SmallResult;
+    }
+    let t = convert(work, &page[..n]);
+    if !t.ok {
+        return Answer::TooManyLists;
+    }
+    let c = t.state;
+    let k = finish(work, c.len, result);
+    Answer::Length(k)
 }
