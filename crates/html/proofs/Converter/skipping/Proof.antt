@@ -1,0 +1,15 @@
+-- `Converter::skipping` meets its contract.
+-- Assumes nothing.
+use mathlib.Core.Path.{_≡_, refl, sym, ap, _∙_}
+use Rattle.html.specs.Struct.{state-of}
+use Rattle.html.proofs.Converter.skipping.Statement.{statement}
+use Rattle.html.proofs.Converter.skipping.Tie as tie
+use Rattle.html.proofs.Converter.skipping.Reads as reads
+use Rattle.html.proofs.Converter.skipping.Lts as lts
+
+returns : tie.Need-returns
+unfolding state-of
+returns c = λ w. refl
+
+pub skipping-spec : {M : Type 1} → statement M
+skipping-spec = tie.close (tie.spec returns)

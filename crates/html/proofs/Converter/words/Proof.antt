@@ -1,0 +1,34 @@
+-- `Converter::words` meets its contract.
+-- Assumes nothing.
+use mathlib.Core.Path.{_≡_, refl, sym, ap, _∙_}
+use denote.Ref.{now}
+use Rattle.html.specs.Struct.{state-of}
+use Rattle.text.specs.Utf8.{chars}
+use Rattle.html.proofs.SkipLaws.{words-shown, words-skipped}
+use borrow.Author.Needs.{needs}
+use Rattle.html.proofs.Converter.words.Statement.{statement}
+use Rattle.html.proofs.Converter.words.Tie as tie
+use Rattle.html.proofs.Converter.words.Reads as reads
+use Rattle.html.proofs.Converter.words.Lts as lts
+use Rattle.html.proofs.Converter.text.Reads as text-reads
+use Rattle.html.proofs.names.skip_no.Reads as skip-no-reads
+
+skip-no-requires : tie.Need-skip-no-requires
+skip-no-requires c κs = search needs
+
+text-requires : tie.Need-text-requires
+text-requires c κs = search needs
+
+same-length : tie.Need-same-length
+same-length c = search needs
+
+returns : tie.Need-returns
+unfolding state-of
+returns c = let a = c .before .before .before .before .before .before .before .before .args in c .before .before .text .ensures ∙ words-shown (chars (now (a .raw))) (state-of (a .self) (now (a .out))) (a .self .skip) refl (sym (c .before .before .before .before .before .skip-no .ensures) ∙ c .before .before .before .before .if1 .taken)
+
+returns-2 : tie.Need-returns-2
+unfolding state-of
+returns-2 c = let a = c .before .before .before .before .args in words-skipped (chars (now (a .raw))) (state-of (a .self) (now (a .out))) (a .self .skip) refl (λ e. c .if1 .left (c .before .skip-no .ensures ∙ e))
+
+pub words-spec : {M : Type 1} → statement M
+words-spec = tie.close (tie.spec skip-no-requires text-requires same-length returns returns-2)

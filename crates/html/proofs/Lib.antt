@@ -1,0 +1,12 @@
+pub mod OutLaws
+pub mod NumberLaws
+pub mod GrowLaws
+pub mod StepLaws
+pub mod NameLaws
+pub mod TextLaws
+pub mod SkipLaws
+pub mod CloseLaws
+pub mod FitLaws
+pub mod TurnLaws
+pub mod LoopLaws
+pub mod FinishLaws

@@ -1,0 +1,321 @@
+-- Text, character by character: which are escaped, what one more does to the state, and the turn of the loop over a text.
+-- Assumes nothing.
+use Prim.Native.Nat.{ℕ, zero, suc, _+_, _-_, _*_, _≤_, _<_}
+use native.Mathlib.Omega.{arith}
+use native.Mathlib.Numerals.{add-one}
+use mathlib.Core.Path.{_≡_, refl, sym, ap, _∙_, subst}
+use mathlib.Core.Bool.{Bool, true, false, not, _&&_, _||_}
+use mathlib.Core.Logic.{_⊎_, inl, inr, ⊎-elim}
+use mathlib.Core.Option.{Option, none, some}
+use mathlib.Core.List.{List, [], _∷_, _++_, reverseAux, append-cancel-left}
+use lib.Dec.{eqb}
+use lib.ListN.{length, getD, take, drop}
+use lib.Seq.{take-suc}
+use borrow.Author.Tests.{eq-eqb, ne-eqb, eqb-true}
+use Rattle.text.specs.Words.{if_then_else_, is, matches, str}
+use Rattle.text.specs.Chars.{is-space}
+use Rattle.text.specs.Utf8.{IsScalar, Scalars, utf8, size, chars, code-at}
+use Rattle.text.proofs.Tests.{on, or-elim}
+use Rattle.text.proofs.Utf8.{utf8-1}
+use Rattle.text.proofs.Laws.{turn-is, utf8-size, advance-end, advance-ascii}
+use Rattle.reference.specs.Unescape.{reference, unescape}
+use Rattle.reference.specs.Answers.{answer}
+use Rattle.reference.specs.declared.Ampersand.{Ampersand}
+use Rattle.reference.specs.declared.Ampersand.the-variants.{Replaced, Left}
+use Rattle.reference.proofs.Laws.{left-at, replaced-at, read-is, unescape-nil, unescape-other, unescape-size}
+use Rattle.html.specs.State.{State, with-out, line-start, ends-with-digit, special, escape, put, spaced, next, put-all, text}
+use Rattle.html.specs.Struct.{out-of, with-space}
+use Rattle.html.specs.Pen.{pen-state, paused, opens, blank, Unescaped}
+use Rattle.html.specs.declared.words.Pen.{Pen}
+use Rattle.html.specs.declared.words.Piece.{Piece}
+use Rattle.html.proofs.OutLaws.{size-out}
+use Rattle.html.proofs.StepLaws.{spaced-with, pending}
+
+-- ---- which characters are escaped
+pub five : (a b c d e : Bool) → a || b || c || d || e ≡ a || (b || (c || (d || (e || false))))
+five true b c d e = refl
+five false true c d e = refl
+five false false true d e = refl
+five false false false true e = refl
+five false false false false true = refl
+five false false false false false = refl
+
+pub escape-special : (first : Bool) (x : ℕ) (o : List ℕ) → special x ≡ true → true ≡ escape first x o
+unfolding escape
+escape-special first x o e = rw e
+
+module _ (first : Bool) (x : ℕ) (o : List ℕ) (e : special x ≡ false) where
+  opens-dot : opens x ≡ true → eqb x 46 ≡ false
+  unfolding opens
+  opens-dot h =
+      let n : (c : ℕ) → (c ≡ 46 → ⊥) → eqb x c ≡ true → eqb x 46 ≡ false = λ c k t. ne-eqb x 46 (λ q. k (sym (eqb-true x c t) ∙ q)) in
+      or-elim (eqb x 35) _ (n 35 (λ q. absurd (omega arith)))
+      (or-elim (eqb x 45) _ (n 45 (λ q. absurd (omega arith)))
+      (or-elim (eqb x 43) _ (n 43 (λ q. absurd (omega arith)))
+      (or-elim (eqb x 62) _ (n 62 (λ q. absurd (omega arith)))
+      (or-elim (eqb x 124) false (n 124 (λ q. absurd (omega arith))) (λ z. let y : _≡_ {A = ℕ} 0 1 = cc in absurd (omega arith)))))) h
+
+  shape : (l f d : Bool) → l ≡ l && true || f && d && false
+  shape true f d = refl
+  shape false true true = refl
+  shape false true false = refl
+  shape false false d = refl
+
+  pub escape-opens : opens x ≡ true → line-start o ≡ escape first x o
+  unfolding escape opens
+  escape-opens h = rw (e, opens-dot h, h) (shape (line-start o) first (ends-with-digit o))
+
+  module _ (h : opens x ≡ false) where
+    rest-is : (t : Bool) → eqb x 46 ≡ t → escape first x o ≡ first && ends-with-digit o && t
+    unfolding escape opens
+    rest-is t q = rw (e, h, q) (no (line-start o))
+      where
+        no : (l : Bool) → l && false || first && ends-with-digit o && t ≡ first && ends-with-digit o && t
+        no true = refl
+        no false = refl
+
+    off : (f d : Bool) → false ≡ f && d && false
+    off true true = refl
+    off true false = refl
+    off false d = refl
+
+    pub escape-other : (x ≡ 46 → ⊥) → false ≡ escape first x o
+    escape-other n = off first (ends-with-digit o) ∙ sym (rest-is false (ne-eqb x 46 n))
+
+    yes : (d : Bool) → d ≡ true && d && true
+    yes true = refl
+    yes false = refl
+
+    pub escape-first : x ≡ 46 → first ≡ true → ends-with-digit o ≡ escape first x o
+    escape-first q f = yes (ends-with-digit o) ∙ sym (rest-is true (eq-eqb x 46 q) ∙ rw f)
+
+    pub escape-later : x ≡ 46 → first ≡ false → false ≡ escape first x o
+    escape-later q f = sym (rest-is true (eq-eqb x 46 q) ∙ rw f)
+
+-- ---- a character written
+module _ (first : Bool) (x : ℕ) (s : State) (o : List ℕ) (sp : Bool) where
+  pub write-plain : escape first x (with-space sp o) && not (s .pre) ≡ false → with-out (x ∷ with-space sp o) false s ≡ put first x (spaced (with-out o sp s))
+  unfolding put
+  write-plain e = sym (ap (put first x) (spaced-with s o sp) ∙ rw e)
+
+  pub write-escaped : escape first x (with-space sp o) && not (s .pre) ≡ true → with-out (x ∷ 92 ∷ with-space sp o) false s ≡ put first x (spaced (with-out o sp s))
+  unfolding put
+  write-escaped e = sym (ap (put first x) (spaced-with s o sp) ∙ rw e)
+
+pub unescaped-pre : (t p : Bool) → p ≡ true → t && not p ≡ false
+unescaped-pre true p e = rw e
+unescaped-pre false p e = refl
+
+pub escaped-out : (t u p : Bool) → p ≡ false → u ≡ t → t && not p ≡ u
+escaped-out true u p e f = rw e (sym f)
+escaped-out false u p e f = sym f
+
+-- ---- how much that adds
+weight : State → ℕ
+weight c = size (c .out) + pending (c .space)
+
+pub pending-most : (b : Bool) → pending b ≤ 1
+pending-most true = omega arith
+pending-most false = omega arith
+
+spaced-weight : (c : State) → weight (spaced c) ≤ weight c
+unfolding weight spaced size
+spaced-weight c = go (c .space) refl
+  where
+    go : (t : Bool) → c .space ≡ t → weight (if t then with-out (32 ∷ c .out) false c else c) ≤ size (c .out) + pending t
+    go true e = omega (arith, ap length (utf8-1 32 (omega arith)))
+    go false e = rw e (omega arith)
+
+put-weight : (first : Bool) (x : ℕ) (c : State) → weight (put first x c) ≤ weight c + 1 + length (utf8 x)
+unfolding weight put size
+put-weight first x c = go (escape first x (c .out) && not (c .pre))
+  where
+    go : (t : Bool) → size (reverseAux (if t then str "\\" ++ (x ∷ []) else x ∷ []) (c .out)) + pending (c .space) ≤ size (c .out) + pending (c .space) + 1 + length (utf8 x)
+    go true = omega (arith, ap length (utf8-1 92 (omega arith)))
+    go false = omega arith
+
+-- ---- the turn of the loop over a text
+pub record Inking (raw : List ℕ) (s : State) (n : ℕ) (out : List ℕ) (p : Pen) (i : ℕ) : Type 0 where
+  pub same : put-all (p .first) (unescape 0 (chars (drop i raw))) (pen-state s p out) ≡ text (chars raw) s
+  pub valid : Scalars (chars (drop i raw))
+  pub bound : i ≤ length raw
+  pub room : p .len + pending (p .space) + 2 * (length raw - i) ≤ n + 1 + 2 * length raw
+
+pen-weight : (s : State) (p : Pen) (w : List ℕ) → weight (pen-state s p w) ≡ p .len + pending (p .space)
+unfolding weight pen-state
+pen-weight s p w = rw (size-out (p .len) w)
+
+pen-pre : (s : State) (p : Pen) (w : List ℕ) → pen-state s p w .pre ≡ s .pre
+unfolding pen-state
+pen-pre s p w = refl
+
+module _ (raw : List ℕ) (s : State) (n : ℕ) (out : List ℕ) (p : Pen) (i : ℕ) (k : Inking raw s n out p i) (u : Piece) (v : Unescaped raw i u) where
+  pub some-size : 1 ≤ length (utf8 (u .code))
+  some-size = utf8-size (u .code) .0
+
+  pub ink-room : p .len + 1 + length (utf8 (u .code)) ≤ n + 1 + 2 * length raw
+  ink-room = omega (arith, k .room, some-size, v .size, v .bound)
+
+  step : (f : Bool) (c : State) → next (p .first) (u .code) (pen-state s p out) ≡ (f, c)
+      → put-all f (unescape 0 (chars (drop (u .next) raw))) c ≡ text (chars raw) s
+  unfolding put-all
+  step f c e =
+      sym (ap (λ (l : List ℕ). put-all (p .first) l (pen-state s p out)) (v .is) ∙ ap (λ (n : Bool × State). put-all (n .0) (unescape 0 (chars (drop (u .next) raw))) (n .1)) e)
+      ∙ k .same
+
+  pub ink-pause : (r : Pen) → blank (s .pre) (u .code) ≡ true → pen-state s r out ≡ paused (pen-state s p out) → r .first ≡ p .first → Inking raw s n out r (u .next)
+  unfolding next blank paused pen-state
+  ink-pause r b e f =
+      let z : r .len ≡ p .len = sym (size-out (r .len) out) ∙ ap (λ (c : State). size (c .out)) e ∙ size-out (p .len) out in
+      record {
+        same = rw (e, f) (step (p .first) (paused (pen-state s p out)) (rw b));
+        valid = v .valid;
+        bound = v .bound;
+        room = omega (arith, k .room, some-size, v .size, v .bound, pending-most (r .space));
+      }
+
+  pub ink-write : (r : Pen) (out' : List ℕ) → blank (s .pre) (u .code) ≡ false → pen-state s r out' ≡ put (p .first) (u .code) (spaced (pen-state s p out)) → r .first ≡ false
+      → Inking raw s n out' r (u .next)
+  unfolding next blank
+  ink-write r out' b e f =
+      let w = ap weight e in
+      let a = spaced-weight (pen-state s p out) in
+      let c = put-weight (p .first) (u .code) (spaced (pen-state s p out)) in
+      let d = pen-weight s p out in
+      let g = pen-weight s r out' in
+      record {
+        same = rw (e, f) (step false (put (p .first) (u .code) (spaced (pen-state s p out))) (rw (pen-pre s p out, b)));
+        valid = v .valid;
+        bound = v .bound;
+        room = omega (arith, k .room, some-size, v .size, v .bound);
+      }
+
+pub ink-done : (raw : List ℕ) (s : State) (n : ℕ) (out : List ℕ) (p : Pen) (i : ℕ) → Inking raw s n out p i → length raw ≤ i → pen-state s p out ≡ text (chars raw) s
+unfolding put-all
+ink-done raw s n out p i k h = sym (rw (advance-end raw i h, unescape-nil)) ∙ k .same
+
+-- ---- the character at an offset
+pub scalars-drop : (n : ℕ) (cs : List ℕ) → Scalars cs → Scalars (drop n cs)
+scalars-drop zero cs h = h
+scalars-drop (suc n) [] h = h
+scalars-drop (suc n) (c ∷ cs) h = scalars-drop n cs (h .1)
+
+is-left : (o : Option (ℕ × ℕ)) (r : Ampersand) → r ≡ answer o → r ≡ Left → o ≡ none
+is-left none r e h = refl
+is-left (some p) r e h = let y : _≡_ {A = ℕ} 0 1 = cc in absurd (omega arith)
+
+is-replaced : (o : Option (ℕ × ℕ)) (r : Ampersand) (c n : ℕ) → r ≡ answer o → r ≡ Replaced c n → o ≡ some (c, n)
+is-replaced none r c n e h = let y : _≡_ {A = ℕ} 0 1 = cc in absurd (omega arith)
+is-replaced (some p) r c n e h =
+    let f : Replaced (p .0) (p .1) ≡ Replaced c n = sym e ∙ h in
+    let a : p .0 ≡ c = cc in
+    let b : p .1 ≡ n = cc in
+    rw (a, b)
+
+abbrev pub piece : ℕ → ℕ → Piece
+piece c n = record { code = c; next = n }
+
+module _ (s : List ℕ) (i : ℕ) (l : i < length s) (h : Scalars (chars (drop i s))) where
+  abbrev tail-of : List ℕ
+  tail-of = chars (drop (i + 1) s)
+
+  module _ (a : getD s i 0 ≡ 38) (r : Ampersand) (e : r ≡ answer (reference (chars (drop (i + 1) s)))) where
+    and-is : chars (drop i s) ≡ 38 ∷ chars (drop (i + 1) s)
+    and-is = advance-ascii s i l (omega arith) ∙ rw a
+
+    and-tail : Scalars (chars (drop (i + 1) s))
+    and-tail = subst Scalars and-is h .1
+
+    pub piece-left : r ≡ Left → Unescaped s i (piece 38 (i + 1))
+    piece-left q =
+        let o = is-left (reference (chars (drop (i + 1) s))) r e q in
+        record {
+          is = left-at s i l a o;
+          scalar = inl (omega arith);
+          size = omega (arith, ap length (utf8-1 38 (omega arith)));
+          bound = omega arith;
+          valid = and-tail;
+        }
+
+    pub piece-replaced : (c n : ℕ) → r ≡ Replaced c n → Unescaped s i (piece c (i + 1 + n))
+    piece-replaced c n q =
+        let o = is-replaced (reference (chars (drop (i + 1) s))) r c n e q in
+        let d = read-is s (i + 1) c n o in
+        record {
+          is = replaced-at s i l a c n o;
+          scalar = d .scalar;
+          size = omega (arith, utf8-size c .1, d .low);
+          bound = d .bound;
+          valid = subst Scalars (d .rest) (scalars-drop n (chars (drop (i + 1) s)) and-tail);
+        }
+
+    pub replaced-bound : (c n : ℕ) → r ≡ Replaced c n → i + 1 + n ≤ length s
+    replaced-bound c n q = read-is s (i + 1) c n (is-replaced (reference (chars (drop (i + 1) s))) r c n e q) .bound
+
+  -- another character
+  not-and : (getD s i 0 ≡ 38 → ⊥) → (code-at s i ≡ 38 → ⊥)
+  not-and n q =
+      let t = turn-is s i l in
+      let w = ap length (ap utf8 q ∙ utf8-1 38 (omega arith)) in
+      let f : take (i + 1) s ≡ take i s ++ (38 ∷ []) =
+      ap (λ (k : ℕ). take (i + k) s) (sym w) ∙ t .front ∙ ap (λ (x : List ℕ). take i s ++ x) (ap utf8 q ∙ utf8-1 38 (omega arith)) in
+      n (sym (last-of (take i s) (getD s i 0) 38 (sym (rw (add-one i) (take-suc s i 0 l)) ∙ f)) ∙ refl)
+    where
+      last-of : (xs : List ℕ) (a b : ℕ) → xs ++ (a ∷ []) ≡ xs ++ (b ∷ []) → b ≡ a
+      last-of xs a b e = let f = append-cancel-left xs (a ∷ []) (b ∷ []) e in cc
+
+  pub piece-other : (c n : ℕ) → (getD s i 0 ≡ 38 → ⊥) → c ≡ code-at s i → n ≡ length (utf8 c) → Unescaped s i (piece c (i + n))
+  piece-other c n k e f =
+      let t = turn-is s i l in
+      let q : chars (drop i s) ≡ c ∷ chars (drop (i + n) s) = rw (f, e) (t .rest) in
+      let v = subst Scalars q h in
+      record {
+        is = ap (unescape 0) q ∙ unescape-other c (chars (drop (i + n) s)) (ne-eqb c 38 (λ z. not-and k (sym e ∙ z)));
+        scalar = v .0;
+        size = omega arith;
+        bound = rw (f, e) (t .bound);
+        valid = v .1;
+      }
+
+-- ---- how much a text adds, and that it leaves the lists as they are
+size-low : (x : ℕ) → 1 ≤ length (utf8 x)
+size-low x = utf8-size x .0
+
+pause-most : (c : State) (b : Bool) → weight (with-out (c .out) b c) ≤ weight c + 1
+unfolding weight
+pause-most c b = omega (arith, pending-most b)
+
+next-weight : (first : Bool) (x : ℕ) (c : State) → weight (next first x c .1) ≤ weight c + 2 * length (utf8 x)
+unfolding next
+next-weight first x c =
+    let a = size-low x in
+    on (λ (n : Bool × State). weight (n .1) ≤ weight c + 2 * length (utf8 x)) (not (c .pre) && is-space x)
+    (λ _. omega (arith, pause-most c (not (line-start (c .out)))))
+    (λ _. omega (arith, put-weight first x (spaced c), spaced-weight c))
+
+put-all-weight : (first : Bool) (xs : List ℕ) (c : State) → weight (put-all first xs c) ≤ weight c + 2 * size xs
+unfolding put-all size
+put-all-weight first [] c = omega arith
+put-all-weight first (x ∷ xs) c = omega (arith, put-all-weight (next first x c .0) xs (next first x c .1), next-weight first x c)
+
+spaced-keeps : (c : State) → spaced c .lists ≡ c .lists
+unfolding spaced
+spaced-keeps c = on (λ (d : State). d .lists ≡ c .lists) (c .space) (λ _. refl) (λ _. refl)
+
+next-lists : (first : Bool) (x : ℕ) (c : State) → next first x c .1 .lists ≡ c .lists
+unfolding next put
+next-lists first x c = on (λ (n : Bool × State). n .1 .lists ≡ c .lists) (not (c .pre) && is-space x) (λ _. refl) (λ _. spaced-keeps c)
+
+put-all-lists : (first : Bool) (xs : List ℕ) (c : State) → put-all first xs c .lists ≡ c .lists
+unfolding put-all
+put-all-lists first [] c = refl
+put-all-lists first (x ∷ xs) c = put-all-lists (next first x c .0) xs (next first x c .1) ∙ next-lists first x c
+
+pub text-size : (raw : List ℕ) (c : State) → size (text raw c .out) ≤ size (c .out) + 1 + 2 * size raw
+unfolding text weight
+text-size raw c =
+    omega (arith, put-all-weight true (unescape 0 raw) c, unescape-size 0 raw, pending-most (c .space))
+
+pub text-lists : (raw : List ℕ) (c : State) → text raw c .lists ≡ c .lists
+unfolding text
+text-lists raw c = put-all-lists true (unescape 0 raw) c

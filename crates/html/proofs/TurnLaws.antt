@@ -1,0 +1,340 @@
+-- One turn of the loop over a page: its cases, in bytes, and what the loop does with it.
+-- Assumes nothing.
+use Prim.Native.Nat.{ℕ, zero, suc, _+_, _-_, _*_, _≤_, _<_}
+use native.Mathlib.Omega.{arith}
+use native.Mathlib.Numerals.{add-one, sub-one}
+use mathlib.Core.Path.{_≡_, refl, sym, ap, _∙_, subst}
+use mathlib.Core.Bool.{Bool, true, false, cond, _&&_}
+use mathlib.Core.Option.{Option, some, none}
+use mathlib.Core.List.{List, [], _∷_, _++_, append-nil}
+use lib.Dec.{eqb, ltb}
+use lib.ListN.{length, getD, take, drop, length-append, length-take, length-drop}
+use lib.Seq.{drop-cons, drop-drop, drop-append-seam, take-append-seam, drop-append-add, drop-length, take-length, take-all}
+use borrow.Author.Tests.{eqb-true, lt-ltb, le-ltb, ltb-true, ltb-false}
+use Rattle.text.specs.Words.{if_then_else_, _>>=_, case, str, starts-with, starts, index, find}
+use Rattle.text.specs.Utf8.{Scalars, encode, size, chars}
+use Rattle.text.specs.Trim.{trim}
+use Rattle.text.specs.Find.{found}
+use Rattle.text.specs.declared.Found.the-variants.{Here, Nowhere}
+use Rattle.text.proofs.Tests.{on}
+use Rattle.text.proofs.Laws.{chars-nil, advance-end, encode-chars}
+use Rattle.text.proofs.AsciiLaws.{chars-ascii, starts-chars}
+use Rattle.text.proofs.FindLaws.{until, since, until-since, chars-until, chars-since, index-until, IsHere, found-here, found-nowhere}
+use Rattle.html.specs.State.{State}
+use Rattle.html.specs.Page.{inside, words, Turn, read, refused, tag-read, comment, a-tag, markup, turn, on-turn, loop}
+use Rattle.html.specs.Struct.{state-of, lists-of, tagged, turned, left, closed}
+use Rattle.html.specs.declared.Tagged.{Tagged}
+use Rattle.html.specs.declared.Converter.{Converter}
+use Rattle.html.proofs.OutLaws.{size-encode}
+use Rattle.html.proofs.GrowLaws.{len-of}
+use Rattle.html.proofs.StepLaws.{lists-is, like}
+use Rattle.html.proofs.FitLaws.{words-size, words-lists}
+use Rattle.html.proofs.CloseLaws.{drop-chars, closed-chars, comment-left, chars-trim, starts-room}
+
+-- ---- the first b of a text
+until-all : (b : ℕ) (s : List ℕ) → since b s ≡ [] → until b s ≡ s
+until-all b s e = sym (append-nil (until b s)) ∙ ap (λ (l : List ℕ). until b s ++ l) (sym e) ∙ until-since b s
+
+index-none : (b : ℕ) (s : List ℕ) → since b s ≡ [] → index (b ∷ []) s ≡ none
+index-none b s e =
+    let q = ap length (until-all b s e) in
+    index-until b s ∙ rw (le-ltb (length (until b s)) (length s) (omega arith))
+
+index-some : (b : ℕ) (s : List ℕ) → 0 < length (since b s) → index (b ∷ []) s ≡ some (length (until b s))
+index-some b s h =
+    let q = ap length (until-since b s) in
+    let l : length (until b s) < length s = omega (arith, length-append (until b s) (since b s)) in
+    index-until b s ∙ rw (lt-ltb (length (until b s)) (length s) l)
+
+take-until : (b : ℕ) (s : List ℕ) → take (length (until b s)) s ≡ until b s
+take-until b s = ap (take (length (until b s))) (sym (until-since b s)) ∙ take-append-seam (until b s) (since b s)
+
+drop-until : (b k : ℕ) (s : List ℕ) → drop (length (until b s) + k) s ≡ drop k (since b s)
+drop-until b k s = ap (drop (length (until b s) + k)) (sym (until-since b s)) ∙ drop-append-add (until b s) (since b s) k
+
+since-head : (b : ℕ) (s : List ℕ) → 0 < length (since b s) → getD (since b s) 0 0 ≡ b
+since-head b [] h = absurd (omega arith)
+since-head b (x ∷ s) h = go (since-head b s) (eqb x b) refl h
+  where
+    go : (0 < length (since b s) → getD (since b s) 0 0 ≡ b) → (t : Bool) → eqb x b ≡ t → 0 < length (cond t (x ∷ s) (since b s))
+        → getD (cond t (x ∷ s) (since b s)) 0 0 ≡ b
+    go ih true e h = eqb-true x b e
+    go ih false e h = ih h
+
+-- ---- the cases of a turn, in characters
+abbrev tag-left : List ℕ → Option State → Option (List ℕ × State)
+tag-left l none = none
+tag-left l (some d) = some (l, d)
+
+left-tag : (s : List ℕ) (n : ℕ) (o : Option State) → left s (tag-read n o) ≡ tag-left (drop n s) o
+left-tag s n none = refl
+left-tag s n (some d) = refl
+
+module _ (s : List ℕ) (c : State) where
+  turn-text : since 60 s ≡ [] → left s (turn s c) ≡ some ([], words s c)
+  unfolding turn
+  turn-text e = rw (index-none 60 s e, drop-length s)
+
+  module _ (h : 0 < length (since 60 s)) where
+    abbrev u : ℕ
+    u = length (until 60 s)
+
+    abbrev d : State
+    d = words (until 60 s) c
+
+    turn-open : turn s c ≡ markup u (since 60 s) d
+    unfolding turn
+    turn-open =
+        let z : drop u s ≡ since 60 s = ap (drop u) (sym (until-since 60 s)) ∙ drop-append-seam (until 60 s) (since 60 s) in
+        rw (index-some 60 s h, take-until 60 s, z)
+
+    all-left : drop (u + length (since 60 s)) s ≡ []
+    all-left = drop-until 60 (length (since 60 s)) s ∙ drop-length (since 60 s)
+
+    turn-comment : starts "<!--" (since 60 s) ≡ true → left s (turn s c) ≡ some (closed (drop 4 (since 60 s)), d)
+    unfolding markup comment
+    turn-comment t = ap (left s) turn-open ∙ rw t (go (find "-->" (drop 4 (since 60 s))) refl)
+      where
+        go : (o : Option ℕ) → find "-->" (drop 4 (since 60 s)) ≡ o
+            → left s (case o (read (u + length (since 60 s)) d) (λ end. read (u + 4 + end + 3) d)) ≡ some (closed (drop 4 (since 60 s)), d)
+        go none q = ap (λ (l : List ℕ). some (l, d)) (all-left ∙ sym (ap (λ o. case o [] (λ end. drop (end + 3) (drop 4 (since 60 s)))) q) ∙ comment-left (drop 4 (since 60 s)))
+        go (some end) q =
+            let n : u + 4 + end + 3 ≡ u + (4 + (end + 3)) = omega arith in
+            ap (λ (l : List ℕ). some (l, d))
+            (ap (λ (k : ℕ). drop k s) n ∙ drop-until 60 (4 + (end + 3)) s ∙ sym (drop-drop (end + 3) 4 (since 60 s))
+            ∙ sym (ap (λ o. case o [] (λ end. drop (end + 3) (drop 4 (since 60 s)))) q)
+            ∙ comment-left (drop 4 (since 60 s)))
+
+    turn-unclosed : starts "<!--" (since 60 s) ≡ false → since 62 (since 60 s) ≡ [] → left s (turn s c) ≡ some ([], d)
+    unfolding markup a-tag
+    turn-unclosed t e = ap (left s) turn-open ∙ rw (t, index-none 62 (since 60 s) e) (ap (λ (l : List ℕ). some (l, d)) all-left)
+
+    turn-tag : starts "<!--" (since 60 s) ≡ false → 0 < length (since 62 (since 60 s))
+        → left s (turn s c) ≡ tag-left (drop 1 (since 62 (since 60 s))) (inside (trim (drop 1 (until 62 (since 60 s)))) d)
+    unfolding markup a-tag
+    turn-tag t g =
+        let r = since 60 s in
+        let n : u + length (until 62 r) + 1 ≡ u + (length (until 62 r) + 1) = omega arith in
+        let q : drop (u + length (until 62 r) + 1) s ≡ drop 1 (since 62 r) = ap (λ (k : ℕ). drop k s) n ∙ drop-until 60 (length (until 62 r) + 1) s ∙ drop-until 62 1 r in
+        ap (left s) turn-open
+        ∙ rw (t, index-some 62 r g, take-until 62 r)
+        (left-tag s (u + length (until 62 r) + 1) (inside (trim (drop 1 (until 62 r))) d) ∙ ap (λ (l : List ℕ). tag-left l (inside (trim (drop 1 (until 62 r))) d)) q)
+
+-- ---- the same in bytes
+chars-past : (h : List ℕ) → [] ≡ chars (drop (length h) h)
+chars-past h = sym (advance-end h (length h) (omega arith))
+
+module _ (h : List ℕ) (at : ℕ) (c : State) where
+  abbrev rest : List ℕ
+  rest = chars (drop at h)
+
+  pub bytes-text : (d : State) → at ≤ length h → found at (index (60 ∷ []) (drop at h)) ≡ Nowhere
+      → d ≡ words (chars (take (length h - at) (drop at h))) c → some (chars (drop (length h) h), d) ≡ left rest (turn rest c)
+  bytes-text d b e q =
+      let n = found-nowhere h at 60 e in
+      let z : since 60 rest ≡ [] = sym (chars-since 60 (omega arith) (drop at h)) ∙ ap chars n ∙ chars-nil in
+      let w : take (length h - at) (drop at h) ≡ drop at h = take-all (length h - at) (drop at h) (omega (arith, length-drop at h)) in
+      rw (q, w, ← chars-past h) (sym (turn-text rest c z))
+
+  module _ (j : ℕ) (f : IsHere h at 60 j) where
+    pub piece-is : chars (take (j - at) (drop at h)) ≡ until 60 rest
+    piece-is = ap chars (f .until-is) ∙ chars-until 60 (omega arith) (drop at h)
+
+    since-is : chars (drop j h) ≡ since 60 rest
+    since-is = ap chars (f .since-is) ∙ chars-since 60 (omega arith) (drop at h)
+
+    bytes-some : 0 < length (since 60 (drop at h))
+    bytes-some = omega (arith, ap length (f .since-is), length-drop j h, f .bound)
+
+    pub first-is : getD h j 0 ≡ 60
+    first-is =
+        ap (λ (l : List ℕ). getD l 0 0) (sym (drop-cons h j 0 (f .bound)) ∙ f .since-is) ∙ since-head 60 (drop at h) bytes-some
+
+    next-is : chars (drop j h) ≡ 60 ∷ chars (drop (j + 1) h)
+    next-is = ap chars (drop-cons h j 0 (f .bound)) ∙ chars-ascii (getD h j 0) (drop (suc j) h) (omega (arith, first-is)) ∙ rw (first-is, add-one j)
+
+    some-left : 0 < length (since 60 rest)
+    some-left = omega (arith, ap length (sym since-is ∙ next-is))
+
+    starts-is : (t : Bool) → t ≡ starts "<!--" (drop j h) → starts "<!--" (since 60 rest) ≡ t
+    starts-is t e = ap (starts "<!--") (sym since-is) ∙ starts-chars (60 ∷ 33 ∷ 45 ∷ 45 ∷ []) (drop j h) (omega arith, (omega arith, (omega arith, (omega arith, tt)))) ∙ sym e
+
+    module _ (d : State) (q : d ≡ words (chars (take (j - at) (drop at h))) c) where
+      state-is : words (until 60 rest) c ≡ d
+      state-is = sym (q ∙ ap (λ (l : List ℕ). words l c) piece-is)
+
+      pub bytes-comment : (t : Bool) (r : ℕ) → t ≡ starts "<!--" (drop j h) → t ≡ true → drop r h ≡ closed (drop (j + 4) h)
+          → some (chars (drop r h), d) ≡ left rest (turn rest c)
+      bytes-comment t r e y g =
+          let p : chars (drop (j + 4) h) ≡ drop 4 (since 60 rest) =
+          ap chars (sym (drop-drop 4 j h)) ∙ drop-chars (60 ∷ 33 ∷ 45 ∷ 45 ∷ []) (drop j h) (omega arith, (omega arith, (omega arith, (omega arith, tt)))) (sym e ∙ y) ∙ ap (drop 4) since-is in
+          sym (turn-comment rest c some-left (starts-is t e ∙ y) ∙ ap (λ (x : State). some (closed (drop 4 (since 60 rest)), x)) state-is
+          ∙ ap (λ (l : List ℕ). some (l, d)) (sym (ap chars g ∙ closed-chars (drop (j + 4) h) ∙ ap closed p)))
+
+      pub bytes-unclosed : (t : Bool) → t ≡ starts "<!--" (drop j h) → t ≡ false → found j (index (62 ∷ []) (drop j h)) ≡ Nowhere
+          → some (chars (drop (length h) h), d) ≡ left rest (turn rest c)
+      bytes-unclosed t e n g =
+          let z : since 62 (since 60 rest) ≡ [] = ap (since 62) (sym since-is) ∙ sym (chars-since 62 (omega arith) (drop j h)) ∙ ap chars (found-nowhere h j 62 g) ∙ chars-nil in
+          sym (turn-unclosed rest c some-left (starts-is t e ∙ n) z ∙ ap (λ (x : State). some ([], x)) state-is ∙ ap (λ (l : List ℕ). some (l, d)) (chars-past h))
+
+      module _ (t : Bool) (e : t ≡ starts "<!--" (drop j h)) (n : t ≡ false) (end : ℕ) (g : IsHere h j 62 end) where
+        until-end : until 62 (since 60 rest) ≡ chars (take (end - j) (drop j h))
+        until-end = ap (until 62) (sym since-is) ∙ sym (chars-until 62 (omega arith) (drop j h)) ∙ ap chars (sym (g .until-is))
+
+        since-end : since 62 (since 60 rest) ≡ chars (drop end h)
+        since-end = ap (since 62) (sym since-is) ∙ sym (chars-since 62 (omega arith) (drop j h)) ∙ ap chars (sym (g .since-is))
+
+        last-is : getD h end 0 ≡ 62
+        last-is =
+            let s : 0 < length (since 62 (drop j h)) = omega (arith, ap length (g .since-is), length-drop end h, g .bound) in
+            ap (λ (l : List ℕ). getD l 0 0) (sym (drop-cons h end 0 (g .bound)) ∙ g .since-is) ∙ since-head 62 (drop j h) s
+
+        pub end-after : j + 1 ≤ end
+        end-after = go (ltb j end) refl
+          where
+            go : (b : Bool) → ltb j end ≡ b → j + 1 ≤ end
+            go true y = omega (arith, ltb-true j end y)
+            go false y =
+                let z : end ≡ j = omega (arith, ltb-false j end y, g .low) in
+                absurd (omega (arith, sym last-is ∙ ap (λ (k : ℕ). getD h k 0) z ∙ first-is))
+
+        after-end : drop 1 (since 62 (since 60 rest)) ≡ chars (drop (end + 1) h)
+        after-end =
+            ap (drop 1) (since-end ∙ ap chars (drop-cons h end 0 (g .bound)) ∙ chars-ascii (getD h end 0) (drop (suc end) h) (omega (arith, last-is)))
+            ∙ rw (add-one end)
+
+        inner-is : drop 1 (until 62 (since 60 rest)) ≡ chars (take (end - (j + 1)) (drop (j + 1) h))
+        inner-is =
+            let k = end-after in
+            let m : end - j ≡ suc (end - (j + 1)) = omega arith in
+            let x : take (end - j) (drop j h) ≡ getD h j 0 ∷ take (end - (j + 1)) (drop (j + 1) h) = rw (m, drop-cons h j 0 (f .bound), add-one j) in
+            ap (drop 1) (until-end ∙ ap chars x ∙ chars-ascii (getD h j 0) _ (omega (arith, first-is)))
+
+        pub bytes-tag : (bs : List ℕ) (o : Option State) → bs ≡ encode (trim (chars (take (end - (j + 1)) (drop (j + 1) h)))) → o ≡ inside (chars bs) d
+            → tag-left (chars (drop (end + 1) h)) o ≡ left rest (turn rest c)
+        bytes-tag bs o b i =
+            let s : 0 < length (since 62 (since 60 rest)) = omega (arith, ap length (since-end ∙ ap chars (drop-cons h end 0 (g .bound)) ∙ chars-ascii (getD h end 0) (drop (suc end) h) (omega (arith, last-is)))) in
+            let p : chars bs ≡ trim (drop 1 (until 62 (since 60 rest))) = ap chars b ∙ chars-trim (take (end - (j + 1)) (drop (j + 1) h)) ∙ ap trim (sym inner-is) in
+            sym (turn-tag rest c some-left (starts-is t e ∙ n) s ∙ ap (λ (l : List ℕ). tag-left l (inside (trim (drop 1 (until 62 (since 60 rest)))) (words (until 60 rest) c))) after-end
+            ∙ ap (tag-left (chars (drop (end + 1) h))) (sym (i ∙ ap (λ (l : List ℕ). inside l d) p ∙ ap (inside (trim (drop 1 (until 62 (since 60 rest))))) (sym state-is))))
+
+pub turned-tag : (t : Tagged) (w l : List ℕ) → (if t .ok then some (l, state-of (t .state) w) else none) ≡ tag-left l (tagged t w)
+unfolding tagged
+turned-tag t w l = go (t .ok)
+  where
+    go : (b : Bool) → (if b then some (l, state-of (t .state) w) else none) ≡ tag-left l (if b then some (state-of (t .state) w) else none)
+    go true = refl
+    go false = refl
+
+-- the text before it
+pub scalars-left : (xs ys : List ℕ) → Scalars (xs ++ ys) → Scalars xs
+scalars-left [] ys h = tt
+scalars-left (x ∷ xs) ys h = (h .0, scalars-left xs ys (h .1))
+
+pub scalars-until : (b : ℕ) (s : List ℕ) → Scalars s → Scalars (until b s)
+scalars-until b s h = scalars-left (until b s) (since b s) (subst Scalars (sym (until-since b s)) h)
+
+-- ---- the loop
+loop-drop : (n : ℕ) (s : List ℕ) (c : State) → loop n s c ≡ loop 0 (drop n s) c
+unfolding loop
+loop-drop zero s c = refl
+loop-drop (suc n) [] c = refl
+loop-drop (suc n) (x ∷ s) c = loop-drop n s c
+
+abbrev Reads : Turn → Type 0
+Reads refused = Unit
+Reads (read n d) = 1 ≤ n
+
+tag-reads : (n : ℕ) (o : Option State) → Reads (tag-read (n + 1) o)
+tag-reads n none = tt
+tag-reads n (some d) = omega arith
+
+turn-reads : (s : List ℕ) (c : State) → 0 < length s → Reads (turn s c)
+unfolding turn markup comment a-tag
+turn-reads s c h = go (find "<" s)
+  where
+    some-of : (at : ℕ) → 1 ≤ at + length (drop at s)
+    some-of at = omega (arith, length-drop at s)
+
+    go : (o : Option ℕ) → Reads (case o (read (length s) (words s c)) (λ at. markup at (drop at s) (words (take at s) c)))
+    go none = h
+    go (some at) =
+        on Reads (starts "<!--" (drop at s))
+        (λ _. close (find "-->" (drop 4 (drop at s))))
+        (λ _. end (find ">" (drop at s)))
+      where
+        close : (o : Option ℕ) → Reads (case o (read (at + length (drop at s)) (words (take at s) c)) (λ e. read (at + 4 + e + 3) (words (take at s) c)))
+        close none = some-of at
+        close (some e) = omega arith
+
+        end : (o : Option ℕ) → Reads (case o (read (at + length (drop at s)) (words (take at s) c)) (λ e. tag-read (at + e + 1) (inside (trim (drop 1 (take e (drop at s)))) (words (take at s) c))))
+        end none = some-of at
+        end (some e) = tag-reads (at + e) (inside (trim (drop 1 (take e (drop at s)))) (words (take at s) c))
+
+pub loop-left : (s : List ℕ) (c : State) → 0 < length s → size (c .out) < 16000 → loop 0 s c ≡ (left s (turn s c) >>= λ p. loop 0 (p .0) (p .1))
+unfolding loop
+loop-left [] c h l = absurd (omega arith)
+loop-left (x ∷ s) c h l = rw (lt-ltb (size (c .out)) 16000 l) (go (turn (x ∷ s) c) (turn-reads (x ∷ s) c h))
+  where
+    go : (t : Turn) → Reads t → on-turn t (λ n d. loop (n - 1) s d) ≡ (left (x ∷ s) t >>= λ p. loop 0 (p .0) (p .1))
+    go refused r = refl
+    go (read zero d) r = absurd (omega arith)
+    go (read (suc n) d) r = rw sub-one (loop-drop n s d)
+
+pub loop-full : (s : List ℕ) (c : State) → 16000 ≤ size (c .out) → loop 0 s c ≡ some c
+unfolding loop
+loop-full [] c l = refl
+loop-full (x ∷ s) c l = rw (le-ltb (size (c .out)) 16000 l)
+
+pub loop-end : (h : List ℕ) (at : ℕ) (c : State) → length h ≤ at → loop 0 (chars (drop at h)) c ≡ some c
+unfolding loop
+loop-end h at c l = rw (advance-end h at l)
+
+-- what a turn that was not refused left
+pub record Kept (s l : List ℕ) (c d : State) : Type 0 where
+  pub count : ℕ
+  pub is : turn s c ≡ read count d
+  pub rest : drop count s ≡ l
+
+some-same : {x y : List ℕ × State} → some x ≡ some y → x ≡ y
+some-same e = cc
+
+pub kept : (s l : List ℕ) (c d : State) → some (l, d) ≡ left s (turn s c) → Kept s l c d
+kept s l c d e = go (turn s c) refl e
+  where
+    go : (t : Turn) → turn s c ≡ t → some (l, d) ≡ left s t → Kept s l c d
+    go refused q e = absurd (let z : _≡_ {A = ℕ} 0 1 = cc in omega arith)
+    go (read n d') q e =
+        let f : _≡_ {A = List ℕ × State} (l, d) (drop n s, d') = some-same e in
+        record { count = n; is = q ∙ ap (read n) (sym (ap (λ (p : List ℕ × State). p .1) f)); rest = sym (ap (λ (p : List ℕ × State). p .0) f) }
+
+-- ---- what a call has to know of the parts of a page
+pub part-most : (k i : ℕ) (h : List ℕ) → length (take k (drop i h)) ≤ length h
+part-most k i h = omega (arith, length-take k (drop i h), length-drop i h)
+
+pub rest-scalars : (h : List ℕ) (at : ℕ) → Scalars (chars (drop at h)) → Scalars (chars (take (length h - at) (drop at h)))
+rest-scalars h at s = rw (take-all (length h - at) (drop at h) (omega (arith, length-drop at h))) s
+
+pub piece-scalars : (h : List ℕ) (at j : ℕ) (c : State) → IsHere h at 60 j → Scalars (chars (drop at h)) → Scalars (chars (take (j - at) (drop at h)))
+piece-scalars h at j c f s = rw (piece-is h at c j f) (scalars-until 60 (chars (drop at h)) s)
+
+pub mark-room : (s : List ℕ) (j : ℕ) (t : Bool) → t ≡ starts "<!--" (drop j s) → t ≡ true → j + 4 ≤ length s
+mark-room s j t e y = starts-room (60 ∷ 33 ∷ 45 ∷ 45 ∷ []) s j (omega arith) (sym e ∙ y)
+
+pub size-chars : (bs : List ℕ) → size (chars bs) ≡ length bs
+size-chars bs = size-encode (chars bs) ∙ ap length (encode-chars bs)
+
+-- after the text of a turn the tag has room
+pub record Room (a r : Converter) (n : ℕ) : Type 0 where
+  pub len : r .len ≤ a .len + 1 + 2 * n
+  pub lists : lists-of r ≡ lists-of a
+  pub depth : r .depth ≡ a .depth
+
+pub words-room : (a r : Converter) (w w' bs : List ℕ) → state-of r w' ≡ words (chars bs) (state-of a w) → Room a r (length bs)
+words-room a r w w' bs e =
+    let l = lists-is r w' _ e ∙ words-lists (chars bs) (state-of a w) ∙ sym (lists-is a w _ refl) in
+    record {
+      len = omega (arith, len-of r w' _ e, words-size (chars bs) (state-of a w), len-of a w _ refl, size-chars bs);
+      lists = l;
+      depth = like a r l;
+    }

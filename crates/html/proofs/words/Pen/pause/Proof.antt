@@ -1,0 +1,24 @@
+-- `Pen::pause` meets its contract.
+-- Assumes nothing.
+use mathlib.Core.Path.{_≡_, refl, sym, ap, _∙_}
+use denote.Ref.{now}
+use mathlib.Core.Bool.{Bool, not}
+use Rattle.html.specs.Pen.{pen-state, paused}
+use Rattle.html.specs.Struct.{out-of}
+use Rattle.html.specs.State.{with-out}
+use borrow.Author.Needs.{needs}
+use Rattle.html.proofs.words.Pen.pause.Statement.{statement}
+use Rattle.html.proofs.words.Pen.pause.Tie as tie
+use Rattle.html.proofs.words.Pen.pause.Reads as reads
+use Rattle.html.proofs.words.Pen.pause.Lts as lts
+use Rattle.html.proofs.output.line_start.Reads as line-start-reads
+
+line-start-requires : tie.Need-line-start-requires
+line-start-requires c κs = search needs
+
+returns : tie.Need-returns
+unfolding pen-state paused
+returns c = (λ s. ap (λ (b : Bool). with-out (out-of (c .before .before .args .self .len) (now (c .before .before .args .out))) (not b) s) (c .line-start .ensures), refl)
+
+pub pause-spec : {M : Type 1} → statement M
+pause-spec = tie.close (tie.spec line-start-requires returns)

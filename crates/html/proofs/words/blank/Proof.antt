@@ -1,0 +1,19 @@
+-- `blank` meets its contract.
+-- Assumes nothing.
+use Rattle.html.specs.Pen.{blank}
+use borrow.Author.Needs.{needs}
+use Rattle.html.proofs.words.blank.Statement.{statement}
+use Rattle.html.proofs.words.blank.Tie as tie
+use Rattle.html.proofs.words.blank.Reads as reads
+use Rattle.html.proofs.words.blank.Lts as lts
+use Rattle.text.proofs.is_space.Reads as is-space-reads
+
+is-space-requires : tie.Need-is-space-requires
+is-space-requires c κs = search needs
+
+returns : tie.Need-returns
+unfolding blank
+returns c = rw (c .is-space .ensures)
+
+pub blank-spec : {M : Type 1} → statement M
+blank-spec = tie.close (tie.spec is-space-requires returns)

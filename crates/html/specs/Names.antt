@@ -1,0 +1,76 @@
+-- A tag's name, and what it says to the code: `tag-means` gives the tag of notes.rs, and `script` and `style` are skipped.
+-- Assumes nothing.
+use Prim.Native.Nat.{ℕ}
+use Prim.Native.String.{String}
+use mathlib.Core.Path.{_≡_}
+use mathlib.Core.List.{List, [], _∷_, map}
+use Rattle.text.specs.Words.{if_then_else_, case, lookup, take-while}
+use Rattle.text.specs.Chars.{is-alphanumeric, to-lower}
+use Rattle.html.specs.declared.Skip.{Skip}
+use Rattle.html.specs.declared.Skip.the-variants.{Nothing, Script, Style}
+use Rattle.html.specs.declared.Tag.{Tag}
+use Rattle.html.specs.declared.Tag.the-variants.{Ul, Ol, Skipped, Writes}
+use Rattle.html.specs.declared.Step.the-variants.{Heading, Block, Pre, Break, Item, Row, Cell, Strong, Emphasis, Code, Other}
+
+-- the longest ASCII alphanumeric front part, in lower case
+unfoldable pub name-of : List ℕ → List ℕ
+name-of s = map to-lower (take-while is-alphanumeric s)
+
+-- one byte of it, and 0 for a byte that ends it
+unfoldable pub folded : ℕ → ℕ
+folded b = if is-alphanumeric b then to-lower b else 0
+
+abbrev pub Rows : Type 0
+Rows = List (String × Tag)
+
+-- what a table says of a name, and what a single name says
+unfoldable pub find : Rows → List ℕ → Tag
+find rows n = case (lookup rows n) (Writes Other) (λ t. t)
+
+unfoldable pub writing : Rows
+writing =
+    ("h1", Writes (Heading 1)) ∷ ("h2", Writes (Heading 2)) ∷ ("h3", Writes (Heading 3)) ∷ ("h4", Writes (Heading 4))
+    ∷ ("h5", Writes (Heading 5))
+    ∷ ("h6", Writes (Heading 6))
+    ∷ ("p", Writes Block)
+    ∷ ("div", Writes Block)
+    ∷ ("blockquote", Writes Block)
+    ∷ ("table", Writes Block)
+    ∷ ("hr", Writes Block)
+    ∷ ("pre", Writes Pre)
+    ∷ ("br", Writes Break)
+    ∷ ("ul", Ul)
+    ∷ ("ol", Ol)
+    ∷ ("li", Writes Item)
+    ∷ ("tr", Writes Row)
+    ∷ ("td", Writes Cell)
+    ∷ ("th", Writes Cell)
+    ∷ ("strong", Writes Strong)
+    ∷ ("b", Writes Strong)
+    ∷ ("em", Writes Emphasis)
+    ∷ ("i", Writes Emphasis)
+    ∷ ("code", Writes Code)
+    ∷ []
+
+unfoldable pub says : List ℕ → Tag
+says n = find (("script", Skipped Script) ∷ ("style", Skipped Style) ∷ writing) n
+
+-- a first letter other than b, h, p, s and t
+pub record Elsewhere (x : ℕ) : Type 0 where
+  pub not-b : 98 ≡ x → ⊥
+  pub not-h : 104 ≡ x → ⊥
+  pub not-p : 112 ≡ x → ⊥
+  pub not-s : 115 ≡ x → ⊥
+  pub not-t : 116 ≡ x → ⊥
+
+-- a number for each skipped tag, 0 for none, by which two are compared; and the skipped tag that a tag is
+abbrev pub skip-no : Skip → ℕ
+skip-no Nothing = 0
+skip-no Script = 1
+skip-no Style = 2
+
+abbrev pub tag-skip : Tag → Skip
+tag-skip Ul = Nothing
+tag-skip Ol = Nothing
+tag-skip (Skipped k) = k
+tag-skip (Writes t) = Nothing

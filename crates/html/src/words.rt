@@ -1,0 +1,170 @@
+// Text outside tags: `text` of notes.rs, with the references of `unescape` replaced as they are met.
+use crate::Converter;
+use crate::output::ends_digit;
+use crate::output::line_start;
+use crate::output::put_char;
+use crate::output::spaced;
+use reference::Ampersand;
+ghost use mathlib.Core.Path.{_≡_};
+ghost use Prim.Native.Nat.{_+_, _*_, _≤_, _<_};
+ghost use mathlib.Core.Bool.{false};
+ghost use lib.ListN.{length, drop};
+ghost use Rattle.text.specs.Utf8.{IsScalar, Scalars, utf8, chars};
+ghost use Rattle.html.specs.State.{State, special, escape, text};
+ghost use Rattle.html.specs.State as state;
+ghost use Rattle.html.specs.Struct.{state-of, out-of};
+ghost use Rattle.html.specs.Pen.{pen-state, paused, opens, blank, Unescaped};
+
+// Where text is written: the output's length, a pending space, and whether nothing of this text has been written yet.
+pub struct Pen {
+    pub len: usize,
+    pub space: bool,
+    pub first: bool,
+}
+
+// A character of text, and where the next one starts.
+pub struct Piece {
+    pub code: u32,
+    pub next: usize,
+}
+
+// The character at i, a reference replaced.
+fn unescaped(raw: &[u8], i: usize) -> Piece
+    requires { ⌜ (i < length (now raw)) × Scalars (chars (drop i (now raw))) ⌝ }
+    ensures { λ r. ⌜ Unescaped (now (raw .entry)) i r ⌝ }
+{
+    let b = raw[i];
+    if b == b'&' {
+        let Ampersand::Replaced(c, n) = reference::reference(raw, i + 1) else {
+            return Piece {
+                code: 38,
+                next: i + 1,
+            };
+        };
+        return Piece {
+            code: c,
+            next: i + 1 + n,
+        };
+    }
+    let c = text::code_at(raw, i);
+    let n = text::width(c);
+    Piece {
+        code: c,
+        next: i + n,
+    }
+}
+
+// A space outside `pre`.
+fn blank(c: u32, pre: bool) -> bool
+    ensures { λ r. ⌜ r ≡ blank pre c ⌝ }
+{
+    !pre & text::is_space(c)
+}
+
+// Characters that the Markdown reader would take for emphasis or a link.
+fn special(c: u32) -> bool
+    ensures { λ r. ⌜ r ≡ special c ⌝ }
+{
+    (c == 92) | (c == 42) | (c == 96) | (c == 91) | (c == 33)
+}
+
+// Characters that it would take for a heading, a list, a quotation or a table at the start of a line.
+fn opens(c: u32) -> bool
+    ensures { λ r. ⌜ r ≡ opens c ⌝ }
+{
+    (c == 35) | (c == 45) | (c == 43) | (c == 62) | (c == 124)
+}
+
+// Whether c gets a backslash.
+fn escapes(out: &[u8], n: usize, c: u32, first: bool) -> bool
+    requires { ⌜ n ≤ length (now out) ⌝ }
+    ensures { λ r. ⌜ r ≡ escape first c (out-of n (now (out .entry))) ⌝ }
+{
+    if special(c) {
+        return true;
+    }
+    if opens(c) {
+        return line_start(out, n);
+    }
+    if c != 46 {
+        return false;
+    }
+    if first {
+        return ends_digit(out, n);
+    }
+    false
+}
+
+impl Pen {
+    // A character that is written.
+    fn write(self, out: &mut [u8], c: u32, pre: bool) -> Pen
+        requires { ⌜ (self .len + 2 + length (utf8 c) ≤ length (now out)) × IsScalar c ⌝ }
+        ensures { λ r. ⌜ ((s : State) → s .pre ≡ pre → pen-state s r (now (out .exit)) ≡ state.put (self .first) c (state.spaced (pen-state s self (now (out .entry))))) × (r .first ≡ false) ⌝ }
+    {
+        let n = spaced(out, self.len, self.space);
+        if pre {
+            let m = put_char(out, n, c);
+            return Pen {
+                len: m,
+                space: false,
+                first: false,
+            };
+        }
+        if escapes(out, n, c, self.first) {
+            let k = put_char(out, n, 92);
+            let m = put_char(out, k, c);
+            return Pen {
+                len: m,
+                space: false,
+                first: false,
+            };
+        }
+        let m = put_char(out, n, c);
+        Pen {
+            len: m,
+            space: false,
+            first: false,
+        }
+    }
+
+    // A space: pending, unless nothing is on the line yet.
+    fn pause(self, out: &[u8]) -> Pen
+        requires { ⌜ self .len ≤ length (now out) ⌝ }
+        ensures { λ r. ⌜ ((s : State) → pen-state s r (now (out .entry)) ≡ paused (pen-state s self (now (out .entry)))) × (r .first ≡ self .first) ⌝ }
+    {
+        let start = line_start(out, self.len);
+        Pen {
+            len: self.len,
+            space: !start,
+            first: self.first,
+        }
+    }
+}
+
+impl Converter {
+    pub(crate) fn text(mut self, out: &mut [u8], raw: &[u8]) -> Self
+        requires { ⌜ (self .len + 2 + 2 * length (now raw) ≤ length (now out)) × Scalars (chars (now raw)) ⌝ }
+        ensures { λ r. ⌜ state-of r (now (out .exit)) ≡ text (chars (now (raw .entry))) (state-of self (now (out .entry))) ⌝ }
+    {
+        let pre = self.pre;
+        let mut p = Pen {
+            len: self.len,
+            space: self.space,
+            first: true,
+        };
+        let mut i = 0;
+        while i < raw.len() {
+            let u = unescaped(raw, i);
+            if blank(u.code, pre) {
+                p = p.pause(out);
+                i = u.next;
+                continue;
+            }
+            p = p.write(out, u.code, pre);
+            i = u.next;
+        }
+        self.len = p.len;
+        self.space = p.space;
+        self
+    }
+}
