@@ -436,14 +436,21 @@ fn cut_end(s: &[u8], n: usize) -> usize
     n
 }
 
+// How many bytes the first n bytes of s are without a split character.
+pub fn cut_len(s: &[u8], n: usize) -> usize
+    ensures { λ r. ⌜ r ≡ length (encode (cut n (chars (now (s .entry))))) ⌝ }
+{
+    if s.len() <= n {
+        return s.len();
+    }
+    cut_end(s, n)
+}
+
 // The first n bytes of s, fewer where a character would be split.
 pub fn cut(s: &[u8], n: usize) -> &[u8]
     ensures { λ r. ⌜ now r ≡ encode (cut n (chars (now (s .entry)))) ⌝ }
 {
-    if s.len() <= n {
-        return s;
-    }
-    let e = cut_end(s, n);
+    let e = cut_len(s, n);
     &s[..e]
 }
 
