@@ -31,7 +31,8 @@ fn run(kind: &'static str, n: usize, seed: u64, mut one: impl FnMut(usize, &mut 
         if !same {
             count.differ += 1;
             if count.differ <= 3 {
-                println!("{kind} {k} differs: {:?}", String::from_utf8_lossy(&input));
+                let start: String = String::from_utf8_lossy(&input).chars().take(200).collect();
+                println!("{kind} {k} differs, {} bytes: {start:?}", input.len());
             }
         }
         if count.run % 100_000 == 0 {

@@ -6,13 +6,23 @@ use mathlib.Core.Bool.{Bool, true, false}
 use mathlib.Core.List.{List}
 use mathlib.Core.Option.{Option, none, some}
 use lib.ListN.{length, take, drop}
+use Rattle.text.specs.Outcome.{Outcome, number, returned}
+use Rattle.html.specs.declared.Answer as H
+use Rattle.html.specs.Answers.{answer-number, answer-length}
 use Rattle.records.specs.Answers.{Answer, at-end, refused, gives, BlockValues, Emphasis}
 use Rattle.sheet.specs.Calls as S
 use Rattle.sheet.specs.Calls.{no-utf8, no-sheet, yes-sheet}
+use Rattle.capi.specs.declared.Written.{Written}
 use Rattle.capi.specs.declared.BlockAt.{BlockAt}
 use Rattle.capi.specs.declared.SpanAt.{SpanAt}
 use Rattle.capi.specs.declared.Part.{Part}
 use Rattle.capi.specs.declared.Tested.{Tested}
+
+abbrev pub written-struct : Outcome → Written
+written-struct o = record { number = number o; length = returned o }
+
+abbrev pub page-struct : H.Answer → Written
+page-struct a = record { number = answer-number a; length = answer-length a }
 
 abbrev pub or-0 : Option ℕ → ℕ
 or-0 none = 0

@@ -2,11 +2,58 @@
 ghost use mathlib.Core.Path.{_≡_};
 ghost use Rattle.text.specs.Utf8.{encode};
 ghost use Rattle.records.specs.Answers.{block-answer, marker-answer, span-answer, text-answer};
+ghost use lib.ListN.{length};
+ghost use Rattle.html.specs.Calls.{html-to-markdown-call};
+ghost use Rattle.html.specs.Answers.{result-after, WorkKept};
 ghost use Rattle.sheet.specs.Calls.{sheet-call};
-ghost use Rattle.capi.specs.Values.{bit, block-struct, span-struct, sheet-struct, PartIs};
+ghost use Rattle.capi.specs.Values.{bit, page-struct, written-struct, block-struct, span-struct, sheet-struct, PartIs};
 use records::walker::BlockAnswer;
 use records::walker::SpanAnswer;
 use sheet::Verdict;
+
+// What a call that writes answers: document 01's number, 0 for success, and how many bytes of the result it wrote.
+#[repr(C)]
+pub struct Written {
+    pub number: u32,
+    pub length: usize,
+}
+
+fn page_written(a: html::Answer) -> Written
+    ensures { λ r. ⌜ r ≡ page-struct a ⌝ }
+{
+    match a {
+        html::Answer::Length(n) => Written {
+            number: 0,
+            length: n,
+        },
+        html::Answer::NotUtf8 => Written {
+            number: 1,
+            length: 0,
+        },
+        html::Answer::SmallWork => Written {
+            number: 2,
+            length: 0,
+        },
+        html::Answer::SmallResult => Written {
+            number: 3,
+            length: 0,
+        },
+        html::Answer::TooManyLists => Written {
+            number: 4,
+            length: 0,
+        },
+    }
+}
+
+#[no_mangle]
+pub extern "C" fn rn_html_to_markdown(page: &[u8], work: &mut [u8], result: &mut [u8]) -> Written
+    ensures { λ r. ⌜ r ≡ written-struct (html-to-markdown-call (now (page .entry)) (length (now (work .entry))) (length (now (result .entry)))) ⌝ }
+    ensures { λ r. ⌜ now (result .exit) ≡ result-after (html-to-markdown-call (now (page .entry)) (length (now (work .entry))) (length (now (result .entry)))) (now (result .entry)) ⌝ }
+    ensures { λ r. ⌜ WorkKept (html-to-markdown-call (now (page .entry)) (length (now (work .entry))) (length (now (result .entry)))) (now (work .entry)) (now (work .exit)) ⌝ }
+{
+    let answer = html::html_to_markdown(page, work, result);
+    page_written(answer)
+}
 
 // A block: kind 0 is the end of the records, 1 a heading, 2 a paragraph, 3 an item. Where number is not 0, all else is 0.
 #[repr(C)]
