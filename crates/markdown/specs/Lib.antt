@@ -1,2 +1,5 @@
 pub mod Blocks
 pub mod Calls
+pub mod Parts
+pub mod Shape
+pub mod Cells

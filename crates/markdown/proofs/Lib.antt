@@ -1,0 +1,9 @@
+pub mod LineLaws
+pub mod CommentLaws
+pub mod Reading
+pub mod PartLaws
+pub mod RunLaws
+pub mod RuleLaws
+pub mod ShapeLaws
+pub mod CellLaws
+pub mod CellFill
