@@ -7,3 +7,4 @@ pub mod RuleLaws
 pub mod ShapeLaws
 pub mod CellLaws
 pub mod CellFill
+pub mod StoreLaws

@@ -18,7 +18,7 @@ use Rattle.text.proofs.Laws.{encode-chars}
 use Rattle.text.proofs.TrimLaws.{drop-start, chars-start, start-le, end-le, take-end, end-space, end-other}
 use Rattle.markdown.specs.Parts.{part, Inside}
 use Rattle.markdown.specs.Shape.{Trimmed}
-use Rattle.markdown.specs.declared.Range.{Range}
+use Rattle.markdown.specs.declared.shape.Range.{Range}
 
 sub-zero : (n : ℕ) → n - 0 ≡ n
 sub-zero n = omega arith

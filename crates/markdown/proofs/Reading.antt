@@ -15,7 +15,7 @@ use Rattle.records.proofs.Stores.{sets-front}
 use Rattle.text.proofs.FindLaws.{until, since}
 use Rattle.markdown.specs.Blocks.{cleaned}
 use Rattle.markdown.specs.Parts.{part, from, past, first-line, other-lines, text-of, source, Inside, PastIs, CommentedIs, LineIs}
-use Rattle.markdown.specs.declared.Line.{Line}
+use Rattle.markdown.specs.declared.lines.Line.{Line}
 use Rattle.markdown.proofs.CommentLaws.{opening, closing, comment-goes, other-stays, starts-split}
 
 pub drop-next : (s : List ℕ) (j : ℕ) → j < length s → drop j s ≡ getD s j 0 ∷ drop (j + 1) s

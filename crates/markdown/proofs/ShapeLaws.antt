@@ -24,7 +24,7 @@ use Rattle.spans.specs.Spans.{spans}
 use Rattle.markdown.specs.Blocks.{is-rule, Marked, marked, marker-at, list-marker, row, Reader, reader, flush, added, heading, paragraph, continuation, read-text, read-line}
 use Rattle.markdown.specs.Parts.{part, Inside}
 use Rattle.markdown.specs.Shape.{Trimmed, Titled, mark, item-of, MarkerAt, Reads, ReadsText, ReadsItem, wrapped, Bare, Says}
-use Rattle.markdown.specs.declared.Range.{Range}
+use Rattle.markdown.specs.declared.shape.Range.{Range}
 use Rattle.markdown.proofs.Reading.{drop-next}
 use Rattle.markdown.proofs.PartLaws.{part-from, part-none, part-length, part-part}
 use Rattle.markdown.proofs.RunLaws.{run-chars, run-take, run-all, run-le, run-split, same-low, digit-low, size-encode, size-chars, empty-chars, chars-past, starts-in}

@@ -3,3 +3,4 @@ pub mod Calls
 pub mod Parts
 pub mod Shape
 pub mod Cells
+pub mod State

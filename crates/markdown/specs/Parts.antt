@@ -8,7 +8,7 @@ use lib.ListN.{length, take, drop}
 use Rattle.text.specs.Words.{str, starts-with}
 use Rattle.text.proofs.FindLaws.{until, since}
 use Rattle.markdown.specs.Blocks.{cleaned}
-use Rattle.markdown.specs.declared.Line.{Line}
+use Rattle.markdown.specs.declared.lines.Line.{Line}
 
 abbrev pub source : Bool → List ℕ → List ℕ → List ℕ
 source true markdown work = work

@@ -5,6 +5,7 @@ use mathlib.Core.Bool.{true}
 use mathlib.Core.Option.{none, some}
 use mathlib.Core.List.{List, [], _∷_, _++_}
 use mathlib.Core.Path.{_≡_}
+use lib.Dec.{eqb}
 use lib.ListN.{length, getD}
 use Rattle.text.specs.Words.{if_then_else_, str, all, is-empty}
 use Rattle.text.specs.Chars.{is-digit}
@@ -14,13 +15,13 @@ use Rattle.records.specs.Blocks.{Heading, Paragraph, Item}
 use Rattle.spans.specs.Spans.{spans}
 use Rattle.markdown.specs.Blocks.{Marked, list-marker, row, Reader, reader, flush, added, heading, paragraph, continuation, read-line}
 use Rattle.markdown.specs.Parts.{part, Inside}
-use Rattle.markdown.specs.declared.Range.{Range}
-use Rattle.markdown.specs.declared.Title.{Title}
-use Rattle.markdown.specs.declared.Title.the-variants.{Named, Plain}
-use Rattle.markdown.specs.declared.Marker.{Marker}
-use Rattle.markdown.specs.declared.Marker.the-variants.{At, Unmarked}
-use Rattle.markdown.specs.declared.Class.{Class}
-use Rattle.markdown.specs.declared.Class.the-variants.{Ends, Headed, Opens, Listed, Row, Wrapped, Text}
+use Rattle.markdown.specs.declared.shape.Range.{Range}
+use Rattle.markdown.specs.declared.shape.Title.{Title}
+use Rattle.markdown.specs.declared.shape.Title.the-variants.{Named, Plain}
+use Rattle.markdown.specs.declared.shape.Marker.{Marker}
+use Rattle.markdown.specs.declared.shape.Marker.the-variants.{At, Unmarked}
+use Rattle.markdown.specs.declared.shape.Class.{Class}
+use Rattle.markdown.specs.declared.shape.Class.the-variants.{Ends, Headed, Opens, Listed, Row, Wrapped, Text}
 
 -- a part without the spaces at its ends
 pub record Trimmed (s : List ℕ) (from to : ℕ) (r : Range) : Type 0 where
@@ -43,6 +44,10 @@ TitleIs line Plain = (r : Reader) → heading (chars line) r ≡ reader (flush r
 abbrev pub mark : List ℕ → List ℕ
 mark [] = str "•"
 mark (d ∷ ds) = (d ∷ ds) ++ str "."
+
+-- an item's map byte without the bit of its span count
+abbrev pub item-bits : ℕ → ℕ
+item-bits depth = if eqb depth 0 then 4 else 6
 
 abbrev pub item-of : ℕ → List ℕ → List ℕ → Marked
 item-of depth digits text = record { depth = depth; marker = mark digits; item = chars text }
