@@ -8,3 +8,6 @@ pub mod ShapeLaws
 pub mod CellLaws
 pub mod CellFill
 pub mod StoreLaws
+pub mod GrowLaws
+pub mod StateLaws
+pub mod ParagraphLaws

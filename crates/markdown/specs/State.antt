@@ -5,7 +5,7 @@ use mathlib.Core.Bool.{Bool, true, false}
 use mathlib.Core.Option.{none}
 use mathlib.Core.List.{List, [], _∷_, _++_, reverse}
 use mathlib.Core.Path.{_≡_}
-use lib.ListN.{length}
+use lib.ListN.{length, take}
 use lib.Seq.{sets}
 use lib.Dec.{eqb}
 use Rattle.text.specs.Words.{if_then_else_}
@@ -14,8 +14,8 @@ use Rattle.records.specs.Blocks.{Span, Kind, item, Block, Item}
 use Rattle.records.specs.Format.{bit, non-empty, le32, kind-bits, encode-kind, encode-count, encode-spans, encode-block, encode-blocks}
 use Rattle.spans.specs.Spans.{spans}
 use Rattle.spans.specs.declared.Written.{Written}
-use Rattle.markdown.specs.Blocks.{Reader, continued}
-use Rattle.markdown.specs.Parts.{text-of}
+use Rattle.markdown.specs.Blocks.{Reader, reader, flush, continued}
+use Rattle.markdown.specs.Parts.{part, text-of}
 use Rattle.markdown.specs.declared.writer.State.{State}
 
 -- the span count of a block, unless it is 0, and its spans
@@ -121,6 +121,34 @@ pub record Holds (markdown work out₀ out : List ℕ) (r : Reader) (s : State) 
   pub end : s .at ≡ length (encode-blocks (reverse (r .blocks)))
   pub last : LastIs (s .item) (r .blocks) s
   pub paragraph : r .paragraph ≡ chars (text-of markdown work (s .copied) (s .from) (s .to))
+
+-- the paragraph is put elsewhere
+abbrev pub placed : State → Bool → ℕ → ℕ → State
+placed s copied from to =
+    record {
+      at = s .at;
+      item = s .item;
+      head = s .head;
+      map = s .map;
+      fields = s .fields;
+      count = s .count;
+      copied = copied;
+      from = from;
+      to = to;
+    }
+
+-- the open paragraph is in the second part of the work buffer
+pub record Owned (markdown work₀ work : List ℕ) (s : State) : Type 0 where
+  pub text : part work (length markdown) (length markdown + (s .to - s .from)) ≡ text-of markdown work₀ (s .copied) (s .from) (s .to)
+  pub below : take (length markdown) work ≡ take (length markdown) work₀
+  pub size : length work ≡ length work₀
+
+-- what a step does: the paragraph ends; another one starts
+abbrev pub ends : Reader → Reader
+ends q = reader (flush q) []
+
+abbrev pub starts-with-text : List ℕ → Reader → Reader
+starts-with-text text q = reader (q .blocks) text
 
 -- ---- offsets
 -- a paragraph in the Markdown, or joined in the second part of the work buffer

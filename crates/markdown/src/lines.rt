@@ -1,9 +1,10 @@
 // Lines of the Markdown, once its comments are removed.
-ghost use Prim.Native.Nat.{_<_, _≤_};
+ghost use Prim.Native.Nat.{_+_, _-_, _<_, _≤_};
+ghost use lib.Seq.{sets};
 ghost use mathlib.Core.Path.{_≡_};
 ghost use lib.ListN.{length, drop};
 ghost use Rattle.text.specs.Words.{starts};
-ghost use Rattle.markdown.specs.Parts.{source, text-of, Inside, PastIs, CommentedIs, LineIs};
+ghost use Rattle.markdown.specs.Parts.{part, source, text-of, Inside, PastIs, CommentedIs, LineIs};
 
 // A line: a part of the Markdown, or, where a comment was removed from it, of the work buffer; and where the next line starts.
 pub struct Line {
@@ -120,4 +121,36 @@ pub(crate) fn next_line(markdown: &[u8], i: usize, work: &mut [u8]) -> Line
         to: j,
         next: j + 1,
     }
+}
+
+// Stores the part from `from` to `to` of the buffer from `at` on, behind that part.
+fn copy_part(work: &mut [u8], from: usize, to: usize, at: usize)
+    requires { ⌜ (from ≤ to) × ((to ≤ at) × (at + (to - from) ≤ length (now work))) ⌝ }
+    ensures { λ _. ⌜ now (work .exit) ≡ sets (now (work .entry)) at (part (now (work .entry)) from to) ⌝ }
+{
+    let n = to - from;
+    let mut i = 0;
+    while i < n {
+        work[at + i] = work[from + i];
+        i += 1;
+    }
+}
+
+// Stores a part of the Markdown, or of the work buffer, from `at` on.
+pub(crate) fn put_text(
+    markdown: &[u8],
+    work: &mut [u8],
+    copied: bool,
+    from: usize,
+    to: usize,
+    at: usize,
+)
+    requires { ⌜ (from ≤ to) × ((to ≤ length (now markdown)) × ((length (now markdown) ≤ at) × (at + (to - from) ≤ length (now work)))) ⌝ }
+    ensures { λ _. ⌜ now (work .exit) ≡ sets (now (work .entry)) at (text-of (now (markdown .entry)) (now (work .entry)) copied from to) ⌝ }
+{
+    if copied {
+        copy_part(work, from, to, at);
+        return;
+    }
+    records::writer::put_bytes(work, at, &markdown[from..to]);
 }
