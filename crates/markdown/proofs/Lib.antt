@@ -11,3 +11,4 @@ pub mod StoreLaws
 pub mod GrowLaws
 pub mod StateLaws
 pub mod ParagraphLaws
+pub mod LineSteps

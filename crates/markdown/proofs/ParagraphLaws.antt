@@ -58,6 +58,10 @@ module _ (work₀ : List ℕ) (from to at : ℕ) where
         let d : drop i (part work₀ from to) ≡ [] = drop-of-length-le (part work₀ from to) {i = i} (omega arith) in
         rw d at (v .left)
 
+pub not-empty : (l : List ℕ) → 1 ≤ length l → is-empty l ≡ false
+not-empty [] q = absurd (omega arith)
+not-empty (x ∷ l) q = refl
+
 -- ---- the text of a line stays where it is while the buffer changes behind it
 pub text-below : (md work₀ work : List ℕ) (copied : Bool) (from to : ℕ) → to ≤ length md → take (length md) work ≡ take (length md) work₀
     → text-of md work copied from to ≡ text-of md work₀ copied from to
@@ -66,7 +70,7 @@ text-below md work₀ work true from to h e = part-below work work₀ (length md
 text-below md work₀ work false from to h e = refl
 
 -- a text stored at an offset
-stored-text : (md work text : List ℕ) (at : ℕ) → at + length text ≤ length work → part (sets work at text) at (at + length text) ≡ text
+pub stored-text : (md work text : List ℕ) (at : ℕ) → at + length text ≤ length work → part (sets work at text) at (at + length text) ≡ text
 stored-text md work text at h = sets-part work at text h at (omega arith) ∙ rw (part-none work at)
 
 -- the last block is where it was
@@ -141,10 +145,6 @@ module _ (md work : List ℕ) (s : State) (copied : Bool) (from to : ℕ) (g : G
         ∙ ap (λ (l : List ℕ). chars a ++ l) (chars-ascii 32 b (omega arith))
         ∙ go (chars a) (empty-chars a ∙ not-empty a h)
       where
-        not-empty : (l : List ℕ) → 1 ≤ length l → is-empty l ≡ false
-        not-empty [] q = absurd (omega arith)
-        not-empty (x ∷ l) q = refl
-
         go : (x : List ℕ) → is-empty x ≡ false → x ++ (32 ∷ chars b) ≡ joined x (chars b)
         go [] e = let z : _≡_ {A = ℕ} 0 1 = cc in absurd (omega arith)
         go (c ∷ x) e = sym (append-assoc (c ∷ x) (32 ∷ []) (chars b))

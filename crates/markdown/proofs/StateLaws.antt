@@ -72,7 +72,7 @@ pub block-small : (k : Kind) (text : List ℕ) → length (encode-block (record 
 block-small k text = omega (arith, block-length (record { kind = k; spans = spans (chars text) }), counted-small text)
 
 -- each span has a map byte
-spans-length : (ss : List Span) → length ss ≤ length (encode-spans ss)
+pub spans-length : (ss : List Span) → length ss ≤ length (encode-spans ss)
 unfolding encode-spans encode-span
 spans-length [] = omega arith
 spans-length (x ∷ ss) = let ih = spans-length ss in omega (arith, length-append (encode-span x) (encode-spans ss))

@@ -161,7 +161,7 @@ pub record Safe (markdown work : List ℕ) (s : State) : Type 0 where
   pub room : 6 * length markdown ≤ length work
   pub order : s .from ≤ s .to
   pub place : Placed (s .copied) (length markdown) (s .from) (s .to)
-  pub head : s .head ≤ s .at
+  pub head : s .head ≤ s .fields
   pub fields : s .fields ≤ s .at
   pub count : s .count ≤ s .at
   pub map : s .map ≤ 6

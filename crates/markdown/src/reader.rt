@@ -176,3 +176,56 @@ fn add_text(
     }
     join_paragraph(markdown, work, s, copied, from, to)
 }
+
+// A row of a table: it is made in the third part of the work buffer.
+fn row_line(
+    markdown: &[u8],
+    work: &mut [u8],
+    out: &mut [u8],
+    s: State,
+    copied: bool,
+    from: usize,
+    to: usize,
+) -> State
+    requires { ⌜ Given (now markdown) (now work) s from to × Scalars (chars (text-of (now markdown) (now work) copied from to)) ⌝ }
+    ensures { λ r. ⌜ Steps (now (markdown .entry)) (now (work .entry)) (now (work .exit)) (now (out .entry)) (now (out .exit)) s r 2000000 0
+        (added (Paragraph (spans (row (chars (text-of (now (markdown .entry)) (now (work .entry)) copied from to)))))) ⌝ }
+{
+    let p = flush(markdown, work, out, s);
+    let n = markdown.len();
+    put_text(markdown, work, copied, from, to, n);
+    let at = n + n;
+    let end = put_row(work, n, n + (to - from), at);
+    let t = trimmed(work, at, end);
+    let a = t.from;
+    let b = t.to;
+    put_paragraph(&work[a..b], out, p)
+}
+
+// Whether an indented line continues the last item.
+fn goes_on(s: State) -> bool
+    ensures { λ r. ⌜ r ≡ s .item && eqb (s .from) (s .to) ⌝ }
+{
+    s.item & (s.from == s.to)
+}
+
+// An indented line: more of the last item, or of a paragraph.
+fn wrapped_line(
+    markdown: &[u8],
+    work: &mut [u8],
+    out: &mut [u8],
+    s: State,
+    copied: bool,
+    from: usize,
+    to: usize,
+) -> State
+    requires { ⌜ Given (now markdown) (now work) s from to × (grown s + (to - from) ≤ length (now markdown)) ⌝ }
+    ensures { λ r. ⌜ Steps (now (markdown .entry)) (now (work .entry)) (now (work .exit)) (now (out .entry)) (now (out .exit)) s r 400000 (grown s + (to - from))
+        (wrapped (chars (text-of (now (markdown .entry)) (now (work .entry)) copied from to))) ⌝ }
+{
+    if goes_on(s) {
+        let text = text_of(markdown, work, copied, from, to);
+        return continue_item(text, out, s);
+    }
+    add_text(markdown, work, s, copied, from, to)
+}
