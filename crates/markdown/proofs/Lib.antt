@@ -12,3 +12,4 @@ pub mod GrowLaws
 pub mod StateLaws
 pub mod ParagraphLaws
 pub mod LineSteps
+pub mod ReadLine

@@ -9,13 +9,14 @@ use lib.ListN.{length, take}
 use lib.Seq.{sets}
 use lib.Dec.{eqb}
 use Rattle.text.specs.Words.{if_then_else_}
-use Rattle.text.specs.Utf8.{chars}
+use Rattle.text.specs.Utf8.{Scalars, chars}
 use Rattle.records.specs.Blocks.{Span, Kind, item, Block, Item}
 use Rattle.records.specs.Format.{bit, non-empty, le32, kind-bits, encode-kind, encode-count, encode-spans, encode-block, encode-blocks}
 use Rattle.spans.specs.Spans.{spans}
 use Rattle.spans.specs.declared.Written.{Written}
 use Rattle.markdown.specs.Blocks.{Reader, reader, flush, continued}
 use Rattle.markdown.specs.Parts.{part, text-of}
+use Rattle.markdown.specs.declared.lines.Line.{Line}
 use Rattle.markdown.specs.declared.writer.State.{State}
 
 -- the span count of a block, unless it is 0, and its spans
@@ -173,7 +174,7 @@ grown s = (s .to - s .from) + min (s .to - s .from) 1
 -- the state before a step that reads a part of the Markdown, or of the first part of the work buffer
 pub record Given (markdown work : List ℕ) (s : State) (from to : ℕ) : Type 0 where
   pub safe : Safe markdown work s
-  pub low : s .at ≤ 274877906944
+  pub low : s .at ≤ 300000000000
   pub order : from ≤ to
   pub bound : to ≤ length markdown
 
@@ -183,3 +184,12 @@ pub record Steps (markdown work₀ work out₁ out₂ : List ℕ) (s r : State) 
   pub safe : Safe markdown work r
   pub grows : r .at ≤ s .at + cost
   pub short : r .to - r .from ≤ long
+
+-- the state before a line is read
+pub record LineGiven (markdown work : List ℕ) (s : State) (l : Line) : Type 0 where
+  pub safe : Safe markdown work s
+  pub low : s .at ≤ 274877906944
+  pub order : l .from ≤ l .to
+  pub bound : l .to ≤ length markdown
+  pub fits : grown s + (l .to - l .from) ≤ length markdown
+  pub scalars : Scalars (chars (text-of markdown work (l .copied) (l .from) (l .to)))

@@ -15,7 +15,7 @@ ghost use Rattle.spans.specs.Spans.{spans};
 ghost use Rattle.markdown.specs.Blocks.{added, row, paragraph, read-line};
 ghost use Rattle.markdown.specs.Parts.{part, text-of};
 ghost use Rattle.markdown.specs.Shape.{mark, wrapped};
-ghost use Rattle.markdown.specs.State.{Safe, Given, Owned, Steps, grown, ends, starts-with-text};
+ghost use Rattle.markdown.specs.State.{Safe, Given, LineGiven, Owned, Steps, grown, ends, starts-with-text};
 use crate::lines::Line;
 use crate::lines::put_text;
 use crate::lines::text_of;
@@ -31,7 +31,7 @@ use crate::writer::put_paragraph;
 
 // The open paragraph becomes a block.
 pub(crate) fn flush<'a>(markdown: &'a [u8], work: &'a [u8], out: &mut [u8], s: State) -> State
-    requires { ⌜ Safe (now markdown) (now work) s × (s .at ≤ 274877906944) ⌝ }
+    requires { ⌜ Safe (now markdown) (now work) s × (s .at ≤ 300000000000) ⌝ }
     ensures { λ r. ⌜ Steps (now (markdown .entry)) (now (work .entry)) (now (work .entry)) (now (out .entry)) (now (out .exit)) s r 393221 0 ends ⌝ }
 {
     if s.from == s.to {
@@ -228,4 +228,63 @@ fn wrapped_line(
         return continue_item(text, out, s);
     }
     add_text(markdown, work, s, copied, from, to)
+}
+
+// A line is read.
+pub(crate) fn read_line(
+    markdown: &[u8],
+    work: &mut [u8],
+    out: &mut [u8],
+    s: State,
+    line: Line,
+) -> State
+    requires { ⌜ LineGiven (now markdown) (now work) s line ⌝ }
+    ensures { λ r. ⌜ Steps (now (markdown .entry)) (now (work .entry)) (now (work .exit)) (now (out .entry)) (now (out .exit)) s r 2000000 (grown s + (line .to - line .from))
+        (λ q. read-line q (chars (text-of (now (markdown .entry)) (now (work .entry)) (line .copied) (line .from) (line .to)))) ⌝ }
+{
+    let copied = line.copied;
+    let at = line.from;
+    let class = classify(text_of(markdown, work, copied, at, line.to));
+    match class {
+        Class::Ends => flush(markdown, work, out, s),
+        Class::Headed(level, from, to) => heading_line(
+            markdown,
+            work,
+            out,
+            s,
+            level,
+            copied,
+            at + from,
+            at + to,
+        ),
+        Class::Opens(from, to) => {
+            let p = flush(markdown, work, out, s);
+            open_paragraph(markdown, work, p, copied, at + from, at + to)
+        }
+        Class::Listed(depth, first, stop, from, to) => {
+            item_line(
+                markdown,
+                work,
+                out,
+                s,
+                depth,
+                copied,
+                at + first,
+                at + stop,
+                at + from,
+                at + to,
+            )
+        }
+        Class::Row(from, to) => row_line(markdown, work, out, s, copied, at + from, at + to),
+        Class::Wrapped(from, to) => wrapped_line(
+            markdown,
+            work,
+            out,
+            s,
+            copied,
+            at + from,
+            at + to,
+        ),
+        Class::Text(from, to) => add_text(markdown, work, s, copied, at + from, at + to),
+    }
 }
