@@ -13,3 +13,5 @@ pub mod StateLaws
 pub mod ParagraphLaws
 pub mod LineSteps
 pub mod ReadLine
+pub mod ReadAll
+pub mod CallLaws

@@ -63,14 +63,14 @@ unfolding final read-lines lines
 final-end r = refl
 
 -- the same of bytes
-chars-drop : (s : List ℕ) → chars (drop 1 (since 10 s)) ≡ drop 1 (chars (since 10 s))
-chars-drop [] = rw (chars-nil)
-chars-drop (c ∷ s) =
+pub chars-after : (s : List ℕ) → chars (drop 1 (since 10 s)) ≡ drop 1 (chars (since 10 s))
+chars-after [] = rw (chars-nil)
+chars-after (c ∷ s) =
     on (λ (l : List ℕ). chars (drop 1 l) ≡ drop 1 (chars l)) (eqb c 10)
     (λ e. rw (chars-ascii c s (omega (arith, eqb-true c 10 e))))
-    (λ _. chars-drop s)
+    (λ _. chars-after s)
 
 pub final-line : (r : Reader) (s : List ℕ) → final r (chars s) ≡ final (read-line r (chars (until 10 s))) (chars (after s))
 final-line r s =
     final-next r (chars s)
-    ∙ rw (chars-until 10 (omega arith) s, chars-drop s, chars-since 10 (omega arith) s)
+    ∙ rw (chars-until 10 (omega arith) s, chars-after s, chars-since 10 (omega arith) s)

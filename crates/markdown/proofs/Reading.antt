@@ -212,7 +212,8 @@ module _ (s : List ℕ) (i : ℕ) where
             bytes = sym (append-nil (part s i j)) ∙ (rw a at (v .bytes));
             left = rw a at (v .left);
             kept = refl;
-            inside = record { order = q; bound = v .bound };
+            order = q;
+            low = v .bound;
             short = omega arith;
             bound = omega arith;
           }
@@ -228,7 +229,8 @@ module _ (s : List ℕ) (i : ℕ) where
             bytes = sym (append-nil (part s i j)) ∙ (rw d at (v .bytes));
             left = rw z (rw d at (v .left));
             kept = refl;
-            inside = record { order = q; bound = b };
+            order = q;
+            low = b;
             short = omega arith;
             bound = omega arith;
           }
@@ -258,7 +260,8 @@ module _ (s : List ℕ) (i : ℕ) where
                 ∙ ap (drop (length s)) f
                 ∙ (let k : length s ≡ length (part s i j) + (length s - (j - i)) = omega arith in
                 rw k (drop-append-add (part s i j) (drop (length (part s i j)) work) (length s - (j - i)) ∙ drop-drop (length s - (j - i)) (length (part s i j)) work));
-            inside = rw (p .copied) (record { order = omega arith; bound = omega arith });
+            order = omega arith;
+            low = omega arith;
             short = omega arith;
             bound = p .bound;
           }

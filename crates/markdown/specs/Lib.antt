@@ -4,3 +4,4 @@ pub mod Parts
 pub mod Shape
 pub mod Cells
 pub mod State
+pub mod Answers

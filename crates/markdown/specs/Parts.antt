@@ -37,7 +37,8 @@ pub record LineIs (markdown : List ℕ) (i : ℕ) (work₀ work : List ℕ) (l :
   pub bytes : text-of markdown work (l .copied) (l .from) (l .to) ≡ first-line (cleaned 0 (drop i markdown))
   pub left : cleaned 0 (drop (l .next) markdown) ≡ other-lines (cleaned 0 (drop i markdown))
   pub kept : drop (length markdown) work ≡ drop (length markdown) work₀
-  pub inside : Inside (source (l .copied) markdown work) (l .from) (l .to)
+  pub order : l .from ≤ l .to
+  pub low : l .to ≤ length markdown
   pub short : l .to + i < l .next + l .from
   pub bound : l .next ≤ length markdown + 1
 

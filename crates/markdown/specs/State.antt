@@ -19,6 +19,10 @@ use Rattle.markdown.specs.Parts.{part, text-of}
 use Rattle.markdown.specs.declared.lines.Line.{Line}
 use Rattle.markdown.specs.declared.writer.State.{State}
 
+-- no block, and no paragraph
+abbrev pub fresh : State
+fresh = record { at = 0; item = false; head = 0; map = 0; fields = 0; count = 0; copied = false; from = 0; to = 0 }
+
 -- the span count of a block, unless it is 0, and its spans
 abbrev pub counted : List Span → List ℕ
 counted ss = encode-count (length ss) ++ encode-spans ss

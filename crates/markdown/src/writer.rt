@@ -12,7 +12,7 @@ ghost use Rattle.records.specs.Blocks.{Heading, Paragraph, Item, item};
 ghost use Rattle.records.specs.Format.{encode-block, encode-kind};
 ghost use Rattle.spans.specs.Spans.{spans};
 ghost use Rattle.markdown.specs.Shape.{mark, item-bits};
-ghost use Rattle.markdown.specs.State.{SpansPut, plain-after, item-after, span-start, continued-after, space-bytes, continued-out};
+ghost use Rattle.markdown.specs.State.{fresh, SpansPut, plain-after, item-after, span-start, continued-after, space-bytes, continued-out};
 use spans::Written;
 
 // Where the records end. Whether the last block is an item, and then its record's start and map byte, where its span count goes and how
@@ -27,6 +27,25 @@ pub struct State {
     pub copied: bool,
     pub from: usize,
     pub to: usize,
+}
+
+impl State {
+    // No block, and no paragraph.
+    pub(crate) fn new() -> Self
+        ensures { λ r. ⌜ r ≡ fresh ⌝ }
+    {
+        Self {
+            at: 0,
+            item: false,
+            head: 0,
+            map: 0,
+            fields: 0,
+            count: 0,
+            copied: false,
+            from: 0,
+            to: 0,
+        }
+    }
 }
 
 // The spans of a text behind the fields of a block, with their count, and the block's map byte.
