@@ -1,0 +1,17 @@
+pub mod LineLaws
+pub mod CommentLaws
+pub mod Reading
+pub mod PartLaws
+pub mod RunLaws
+pub mod RuleLaws
+pub mod ShapeLaws
+pub mod CellLaws
+pub mod CellFill
+pub mod StoreLaws
+pub mod GrowLaws
+pub mod StateLaws
+pub mod ParagraphLaws
+pub mod LineSteps
+pub mod ReadLine
+pub mod ReadAll
+pub mod CallLaws

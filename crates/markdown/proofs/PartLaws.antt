@@ -1,0 +1,104 @@
+-- The laws of parts of a list, and of a part without the spaces at its ends.
+-- Assumes nothing.
+use Prim.Native.Nat.{ℕ, zero, suc, _+_, _-_, _≤_, _<_}
+use mathlib.Core.Bool.{Bool, true, false, cond}
+use mathlib.Core.List.{List, [], _∷_, _++_, append-assoc, append-nil}
+use mathlib.Core.Logic.{_⊎_, inl, inr, ⊎-elim}
+use mathlib.Core.Path.{_≡_, refl, sym, ap, _∙_}
+use borrow.Author.Tests.{eqb-true, eqb-false, lt-ltb}
+use native.Mathlib.Numerals.{add-one}
+use native.Mathlib.Omega.{arith}
+use lib.Dec.{eqb, ltb}
+use lib.ListN.{length, getD, take, drop, length-append, length-drop, length-take, drop-of-length-le}
+use lib.Seq.{take-take, drop-drop, drop-nil, take-nil, length-take-le, take-length, take-all}
+use Rattle.text.specs.Utf8.{encode, chars}
+use Rattle.text.specs.Trim.{trim-start, trim-end, trim, start-of, end-of, space-before}
+use Rattle.text.proofs.Tests.{decide}
+use Rattle.text.proofs.Laws.{encode-chars}
+use Rattle.text.proofs.TrimLaws.{drop-start, chars-start, start-le, end-le, take-end, end-space, end-other}
+use Rattle.markdown.specs.Parts.{part, Inside}
+use Rattle.markdown.specs.Shape.{Trimmed}
+use Rattle.markdown.specs.declared.shape.Range.{Range}
+
+sub-zero : (n : ℕ) → n - 0 ≡ n
+sub-zero n = omega arith
+
+sub-suc : (n k : ℕ) → suc n - suc k ≡ n - k
+sub-suc n k = omega arith
+
+pub drop-take : (k n : ℕ) (l : List ℕ) → drop k (take n l) ≡ take (n - k) (drop k l)
+drop-take zero n l = rw (sub-zero n)
+drop-take (suc k) zero l = let z : 0 - suc k ≡ 0 = omega arith in rw z
+drop-take (suc k) (suc n) [] = sym (take-nil (suc n - suc k))
+drop-take (suc k) (suc n) (x ∷ l) = drop-take k n l ∙ rw (sub-suc n k)
+
+-- a part of a part
+pub part-part : (s : List ℕ) (f t a b : ℕ) → b ≤ t - f → part (part s f t) a b ≡ part s (f + a) (f + b)
+part-part s f t a b h =
+    let q : f + b - (f + a) ≡ b - a = omega arith in
+    rw (drop-take a (t - f) (drop f s), drop-drop a f s, q) (take-take (b - a) (t - f - a) (drop (f + a) s) (omega arith))
+
+pub part-length : (s : List ℕ) (f t : ℕ) → f ≤ t → t ≤ length s → length (part s f t) ≡ t - f
+part-length s f t h l = length-take-le (t - f) (drop f s) (rw (length-drop f s) (omega arith))
+
+pub part-all : (s : List ℕ) → part s 0 (length s) ≡ s
+part-all s = rw (sub-zero (length s)) (take-length s)
+
+pub part-none : (s : List ℕ) (f : ℕ) → part s f f ≡ []
+part-none s f = let q : f - f ≡ 0 = omega arith in rw q
+
+pub part-from : (s : List ℕ) (f : ℕ) → part s f (length s) ≡ drop f s
+part-from s f = take-all (length s - f) (drop f s) (rw (length-drop f s) (omega arith))
+
+-- ---- what the end of a text loses leaves whole characters
+space-zero : (s : List ℕ) (e : ℕ) → e < 1 → space-before s e ≡ 0
+unfolding space-before
+space-zero s e h = rw (lt-ltb e 1 h)
+
+end-cut : (k : ℕ) (s : List ℕ) (e : ℕ) → e ≤ k → e ≤ length s → (n : ℕ) × (trim-end (chars (take e s)) ≡ chars (take n s))
+end-cut zero s e h l = (e, end-other s e l (space-zero s e (omega arith)))
+end-cut (suc k) s e h l =
+    ⊎-elim
+    (λ z. (e, end-other s e l (eqb-true (space-before s e) 0 z)))
+    (λ z.
+    let n : 1 ≤ space-before s e = omega (arith, eqb-false (space-before s e) 0 z) in
+    let g = end-space s e (space-before s e) refl n in
+    let i = end-cut k s (e - space-before s e) (omega (arith, g .0)) (omega arith) in
+    (i .0, g .1 ∙ i .1))
+    (decide (eqb (space-before s e) 0))
+
+pub chars-end : (s : List ℕ) → chars (encode (trim-end (chars s))) ≡ trim-end (chars s)
+chars-end s =
+    let i = end-cut (length s) s (length s) (omega arith) (omega arith) in
+    let e = rw (take-length s) at (i .1) in
+    rw e (ap chars (encode-chars (take (i .0) s)))
+
+-- ---- the part without the spaces at its ends
+pub start-in : (s : List ℕ) (from to k : ℕ) → Inside s from to → k ≡ start-of (part s from to) → from + k ≤ to
+start-in s from to k v e = let o = v .order in omega (arith, e, start-le (part s from to), part-length s from to o (v .bound))
+
+pub trimmed-is : (s : List ℕ) (from to k m : ℕ) → Inside s from to → k ≡ start-of (part s from to) → m ≡ end-of (part s (from + k) to)
+    → Trimmed s from to (record { from = from + k; to = from + k + m })
+trimmed-is s from to k m v e f =
+    let o = v .order in
+    let b = v .bound in
+    let p = part s from to in
+    let n = part-length s from to o b in
+    let h = start-le p in
+    let q : part s (from + k) to ≡ encode (trim-start (chars p)) =
+    (let u : to - (from + k) ≡ to - from - k = omega arith in
+    rw (u, ← drop-drop k from s) (sym (drop-take k (to - from) (drop from s)) ∙ ap (λ (x : ℕ). drop x p) e ∙ drop-start p))
+    in
+    let l = part-length s (from + k) to (omega arith) b in
+    let g = end-le (part s (from + k) to) in
+    let c : chars (part s (from + k) to) ≡ trim-start (chars p) = ap chars q ∙ chars-start p in
+    let w : from + k + m - (from + k) ≡ m = omega arith in
+    let t : part s (from + k) (from + k + m) ≡ encode (trim-end (chars (part s (from + k) to))) =
+    rw w (sym (take-take m (to - (from + k)) (drop (from + k) s) (omega arith)) ∙ ap (λ (x : ℕ). take x (part s (from + k) to)) f ∙ take-end (part s (from + k) to))
+    in
+    record {
+      low = omega arith;
+      order = omega arith;
+      high = omega arith;
+      text = ap chars t ∙ chars-end (part s (from + k) to) ∙ ap trim-end c;
+    }

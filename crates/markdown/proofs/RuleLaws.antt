@@ -1,0 +1,82 @@
+-- The laws of `is-rule` and of the tests that it is made of.
+-- Assumes nothing.
+use Prim.Native.Nat.{ℕ, zero, suc, _+_, _-_, _≤_, _<_}
+use mathlib.Core.Bool.{Bool, true, false, cond, _&&_, _||_, true≢false}
+use mathlib.Core.List.{List, [], _∷_}
+use mathlib.Core.Logic.{_⊎_, inl, inr, ⊎-elim}
+use mathlib.Core.Path.{_≡_, refl, sym, ap, _∙_}
+use borrow.Author.Tests.{ltb-true, ltb-false, le-leb, lt-leb}
+use native.Mathlib.Omega.{arith}
+use lib.Dec.{eqb, ltb, leb}
+use lib.ListN.{length, getD, drop, drop-of-length-le}
+use Rattle.text.specs.Words.{all, any, matches}
+use Rattle.text.specs.Utf8.{size, chars}
+use Rattle.text.proofs.Tests.{decide, and-true, and-false}
+use Rattle.text.proofs.Laws.{chars-nil}
+use Rattle.text.proofs.AsciiLaws.{chars-ascii}
+use Rattle.markdown.specs.Blocks.{is-rule}
+use Rattle.markdown.proofs.Reading.{drop-next}
+use Rattle.markdown.proofs.RunLaws.{ruled-low, all-chars, size-chars}
+
+abbrev pub ruled : ℕ → Bool
+ruled = matches "-*_ |:"
+
+abbrev pub marks : ℕ → Bool
+marks = matches "-*_"
+
+-- ---- tests in another order
+pub or-false : (a : Bool) → a || false ≡ a
+or-false true = refl
+or-false false = refl
+
+pub three : (a b c : Bool) → (a || b) || c ≡ a || (b || (c || false))
+three true b c = refl
+three false true c = refl
+three false false c = sym (or-false c)
+
+pub six : (a b c d e f : Bool) → (((a || (b || (c || false))) || d) || e) || f ≡ a || (b || (c || (d || (e || (f || false)))))
+six true b c d e f = refl
+six false true c d e f = refl
+six false false true d e f = refl
+six false false false d e f = three d e f
+
+or-assoc : (a b c : Bool) → (a || b) || c ≡ a || (b || c)
+or-assoc true b c = refl
+or-assoc false b c = refl
+
+-- ---- the loop
+ascii-of : (s : List ℕ) → all ruled s ≡ true → chars s ≡ s
+ascii-of [] e = chars-nil
+ascii-of (x ∷ xs) e =
+    let p = and-true (ruled x) (all ruled xs) e in
+    ⊎-elim
+    (λ l. chars-ascii x xs (ltb-true x 0x80 l) ∙ ap (λ (l : List ℕ). x ∷ l) (ascii-of xs (p .1)))
+    (λ l. absurd (true≢false (sym (p .0) ∙ ruled-low x (ltb-false x 0x80 l))))
+    (decide (ltb x 0x80))
+
+module _ (s : List ℕ) where
+  pub rule-short : length s < 3 → false ≡ is-rule (chars s)
+  unfolding is-rule
+  rule-short h = rw (size-chars s, lt-leb 3 (length s) h)
+
+  pub rule-not : all ruled s ≡ false → false ≡ is-rule (chars s)
+  unfolding is-rule
+  rule-not e = rw (all-chars ruled ruled-low s, e) (go (leb 3 (size (chars s))) (any marks (chars s)))
+    where
+      go : (a b : Bool) → false ≡ (a && false && b)
+      go true b = refl
+      go false b = refl
+
+  pub rule-is : (m : Bool) → 3 ≤ length s → all ruled s ≡ true → m || false ≡ any marks s → m ≡ is-rule (chars s)
+  unfolding is-rule
+  rule-is m h e f = rw (ascii-of s e, e) (sym (or-false m) ∙ f ∙ rw (sym (ap size (ascii-of s e)) ∙ size-chars s, le-leb 3 (length s) h))
+
+  module _ (i : ℕ) (l : i < length s) where
+    pub ruled-next : ruled (getD s i 0) ≡ true → all ruled (drop i s) ≡ all ruled (drop (i + 1) s)
+    ruled-next e = rw (drop-next s i l, e)
+
+    pub ruled-stop : ruled (getD s i 0) ≡ false → all ruled (drop i s) ≡ false
+    ruled-stop e = rw (drop-next s i l, e)
+
+    pub marks-next : (m : Bool) → m || any marks (drop i s) ≡ (m || marks (getD s i 0)) || any marks (drop (i + 1) s)
+    marks-next m = rw (drop-next s i l) (sym (or-assoc m (marks (getD s i 0)) (any marks (drop (i + 1) s))))

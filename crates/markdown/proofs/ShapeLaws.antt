@@ -1,0 +1,326 @@
+-- The laws of headings, list markers and the order of the tests on a line, on the line's bytes.
+-- Assumes nothing.
+use Prim.Native.Nat.{ℕ, zero, suc, _+_, _-_, _/_, _≤_, _<_, min}
+use mathlib.Core.Bool.{Bool, true, false, cond, _&&_, _||_}
+use mathlib.Core.Option.{Option, none, some}
+use mathlib.Core.List.{List, [], _∷_, _++_}
+use mathlib.Core.Logic.{_⊎_, inl, inr, ⊎-elim}
+use mathlib.Core.Path.{_≡_, refl, sym, ap, _∙_}
+use borrow.Author.Tests.{eq-eqb, ne-eqb, le-leb, lt-leb, leb-true}
+use native.Mathlib.Omega.{arith}
+use lib.Dec.{eqb, ltb, leb}
+use lib.ListN.{length, getD, take, drop, length-append, length-drop}
+use lib.Seq.{drop-drop}
+use Rattle.text.specs.Words.{if_then_else_, case, str, starts, starts-with, is-empty, all, take-while, drop-while}
+use Rattle.text.specs.Chars.{within, is-digit, is-space}
+use Rattle.text.specs.Utf8.{encode, size, chars}
+use Rattle.text.specs.Trim.{trim, trim-start, start-of}
+use Rattle.text.proofs.Tests.{decide, on, or-elim, and-false, within-is, within-below, within-above}
+use Rattle.text.proofs.Laws.{chars-nil, encode-chars, encode-append}
+use Rattle.text.proofs.AsciiLaws.{Ascii, starts-chars}
+use Rattle.text.proofs.TrimLaws.{drop-start, chars-start, start-le}
+use Rattle.records.specs.Blocks.{Heading, Paragraph, Item}
+use Rattle.spans.specs.Spans.{spans}
+use Rattle.markdown.specs.Blocks.{is-rule, Marked, marked, marker-at, list-marker, row, Reader, reader, flush, added, heading, paragraph, continuation, read-text, read-line}
+use Rattle.markdown.specs.Parts.{part, Inside}
+use Rattle.markdown.specs.Shape.{Trimmed, Titled, mark, item-of, MarkerAt, Reads, ReadsText, ReadsItem, wrapped, Bare, Says}
+use Rattle.markdown.specs.declared.shape.Range.{Range}
+use Rattle.markdown.proofs.Reading.{drop-next}
+use Rattle.markdown.proofs.PartLaws.{part-from, part-none, part-length, part-part}
+use Rattle.markdown.proofs.RunLaws.{run-chars, run-take, run-all, run-le, run-split, same-low, digit-low, size-encode, size-chars, empty-chars, chars-past, starts-in}
+
+ascii-one : (x : ℕ) → x < 0x80 → Ascii (x ∷ [])
+ascii-one x h = (h, tt)
+
+ascii-two : (x y : ℕ) → x < 0x80 → y < 0x80 → Ascii (x ∷ y ∷ [])
+ascii-two x y h k = (h, (k, tt))
+
+-- ---- headings
+module _ (t : List ℕ) (level : ℕ) (e : level ≡ length (take-while (λ (x : ℕ). eqb x 35) t)) where
+  heading-eq : (r : Reader)
+      → heading (chars t) r
+      ≡ (if starts-with (32 ∷ []) (drop level t) && leb level 6 then added (Heading (min level 3) (spans (trim (chars (drop level t))))) r
+      else reader (flush r) (chars t))
+  unfolding heading
+  heading-eq r =
+      let rc = run-chars (λ (x : ℕ). eqb x 35) (same-low 35 (omega arith)) t in
+      rw (rc .0, rc .1, ← e, starts-chars (32 ∷ []) (drop level t) (ascii-one 32 (omega arith)))
+
+  pub title-long : 6 < level → (r : Reader) → heading (chars t) r ≡ reader (flush r) (chars t)
+  title-long h r =
+      heading-eq r
+      ∙ rw (lt-leb level 6 h, and-false (starts-with (32 ∷ []) (drop level t)) false refl)
+
+  pub title-other : starts-with (32 ∷ []) (drop level t) ≡ false → (r : Reader) → heading (chars t) r ≡ reader (flush r) (chars t)
+  title-other h r = heading-eq r ∙ rw h
+
+  module _ (h : starts-with (32 ∷ []) (drop level t) ≡ true) where
+    pub title-inside : Inside t level (length t)
+    title-inside = record { order = omega (arith, starts-in (32 ∷ []) t level (omega arith) h); bound = omega arith }
+
+    pub title-is : (l : ℕ) (g : Range) → level ≤ 6 → Trimmed t level (length t) g → l ≡ min level 3 → Titled t l (g .from) (g .to)
+    title-is l g m v q =
+        record {
+          low = omega arith;
+          inside = record { order = v .order; bound = v .high };
+          reads = λ r.
+              heading-eq r
+              ∙ rw (h, le-leb level 6 m, ← q, v .text, part-from t level);
+        }
+
+-- ---- list markers
+module _ (line : List ℕ) (at : ℕ) (e : at ≡ start-of line) where
+  marker-in : at ≤ length line
+  marker-in = omega (arith, start-le line)
+
+  marker-eq : list-marker (chars line) ≡ marker-at at (chars (drop at line))
+  unfolding list-marker start-of
+  marker-eq =
+      let q : chars (drop at line) ≡ drop-while is-space (chars line) = ap chars (ap (λ (n : ℕ). drop n line) e ∙ drop-start line) ∙ chars-start line in
+      let s = simp (length-append) at (ap length (sym (encode-append (take-while is-space (chars line)) (drop-while is-space (chars line))) ∙ ap encode (run-split is-space (chars line)) ∙ encode-chars line)) in
+      let n : size (take-while is-space (chars line)) ≡ at = omega (arith, size-encode (take-while is-space (chars line)), e) in
+      rw (n, q)
+
+  -- a bullet
+  module _ (b : starts "- " (drop at line) || starts "* " (drop at line) || starts "+ " (drop at line) ≡ true) where
+    abbrev s : List ℕ
+    s = drop at line
+
+    bullet-size : at + 2 ≤ length line
+    bullet-size =
+        or-elim (starts "- " s || starts "* " s) (starts "+ " s)
+        (λ f. or-elim (starts "- " s) (starts "* " s) (λ g. starts-in (45 ∷ 32 ∷ []) line at (omega arith) g) (λ g. starts-in (42 ∷ 32 ∷ []) line at (omega arith) g) f)
+        (λ g. starts-in (43 ∷ 32 ∷ []) line at (omega arith) g)
+        b
+
+    bullet-past : drop 2 (chars s) ≡ chars (drop 2 s)
+    bullet-past =
+        or-elim (starts "- " s || starts "* " s) (starts "+ " s)
+        (λ f. or-elim (starts "- " s) (starts "* " s)
+        (λ g. chars-past (45 ∷ 32 ∷ []) s (ascii-two 45 32 (omega arith) (omega arith)) g)
+        (λ g. chars-past (42 ∷ 32 ∷ []) s (ascii-two 42 32 (omega arith) (omega arith)) g) f)
+        (λ g. chars-past (43 ∷ 32 ∷ []) s (ascii-two 43 32 (omega arith) (omega arith)) g)
+        b
+
+    bullet-eq : marker-at at (chars s) ≡ some (marked (at / 2) (str "•") (drop 2 (chars s)))
+    unfolding marker-at
+    bullet-eq =
+        rw (starts-chars (45 ∷ 32 ∷ []) s (ascii-two 45 32 (omega arith) (omega arith)), starts-chars (42 ∷ 32 ∷ []) s (ascii-two 42 32 (omega arith) (omega arith)), starts-chars (43 ∷ 32 ∷ []) s (ascii-two 43 32 (omega arith) (omega arith)), b)
+
+    pub bullet-inside : Inside line (at + 2) (length line)
+    bullet-inside = record { order = bullet-size; bound = omega arith }
+
+    pub bullet-is : (g : Range) → Trimmed line (at + 2) (length line) g → MarkerAt line (at / 2) at at (g .from) (g .to)
+    bullet-is g v =
+        record {
+          digits = record { order = omega arith; bound = marker-in };
+          few = omega arith;
+          ascii = rw (part-none line at);
+          inside = record { order = v .order; bound = v .high };
+          reads =
+              marker-eq
+              ∙ bullet-eq
+              ∙ rw (part-none line at, bullet-past, v .text, part-from line (at + 2), drop-drop 2 at line);
+        }
+
+  -- digits
+  module _
+      (b : starts "- " (drop at line) || starts "* " (drop at line) || starts "+ " (drop at line) ≡ false)
+      (n : ℕ)
+      (d₀ : n ≡ length (take-while is-digit (part line at (length line))))
+    where
+      abbrev rest : List ℕ
+      rest = drop at line
+
+      d : n ≡ length (take-while is-digit rest)
+      d = d₀ ∙ rw (part-from line at)
+
+      pub digits-in : at + n ≤ length line
+      digits-in = let l = length-drop at line in omega (arith, d, run-le is-digit rest, marker-in)
+
+      ordinal-eq : marker-at at (chars rest)
+          ≡ (if starts ". " (drop (at + n) line) && within 1 9 n then some (marked (at / 2) (take-while is-digit rest ++ str ".") (drop 2 (chars (drop (at + n) line)))) else none)
+      unfolding marker-at
+      ordinal-eq =
+          let rc = run-chars is-digit digit-low rest in
+          rw (
+            starts-chars (45 ∷ 32 ∷ []) rest (ascii-two 45 32 (omega arith) (omega arith)),
+            starts-chars (42 ∷ 32 ∷ []) rest (ascii-two 42 32 (omega arith) (omega arith)),
+            starts-chars (43 ∷ 32 ∷ []) rest (ascii-two 43 32 (omega arith) (omega arith)),
+            b,
+            rc .0,
+            rc .1,
+            ← d,
+            drop-drop n at line,
+            starts-chars (46 ∷ 32 ∷ []) (drop (at + n) line) (ascii-two 46 32 (omega arith) (omega arith)),
+          )
+
+      pub ordinal-none : n ≡ 0 → list-marker (chars line) ≡ none
+      ordinal-none z = marker-eq ∙ ordinal-eq ∙ rw (within-below 1 9 n (omega arith), and-false (starts ". " (drop (at + n) line)) false refl)
+
+      pub ordinal-many : 9 < n → list-marker (chars line) ≡ none
+      ordinal-many z = marker-eq ∙ ordinal-eq ∙ rw (within-above 1 9 n (omega arith) z, and-false (starts ". " (drop (at + n) line)) false refl)
+
+      pub ordinal-other : starts ". " (drop (at + n) line) ≡ false → list-marker (chars line) ≡ none
+      ordinal-other f = marker-eq ∙ ordinal-eq ∙ rw f
+
+      module _ (f : starts ". " (drop (at + n) line) ≡ true) where
+        pub ordinal-inside : Inside line (at + n + 2) (length line)
+        ordinal-inside = record { order = starts-in (46 ∷ 32 ∷ []) line (at + n) (omega arith) f; bound = omega arith }
+
+        mark-some : (ds : List ℕ) → 1 ≤ length ds → mark ds ≡ ds ++ str "."
+        mark-some [] h = absurd (omega arith)
+        mark-some (c ∷ ds) h = refl
+
+        digits-part : part line at (at + n) ≡ take-while is-digit rest
+        digits-part = let q : at + n - at ≡ n = omega arith in rw q (ap (λ (k : ℕ). take k rest) d ∙ run-take is-digit rest)
+
+        pub ordinal-is : (g : Range) → (n ≡ 0 → ⊥) → n ≤ 9 → Trimmed line (at + n + 2) (length line) g
+            → MarkerAt line (at / 2) at (at + n) (g .from) (g .to)
+        ordinal-is g z m v =
+            let l = digits-in in
+            record {
+              digits = record { order = omega arith; bound = digits-in };
+              few = omega arith;
+              ascii = rw (digits-part) (run-all is-digit rest);
+              inside = record { order = v .order; bound = v .high };
+              reads =
+                  marker-eq
+                  ∙ ordinal-eq
+                  ∙ rw (
+                    f,
+                    within-is 1 9 n (omega arith) m,
+                    chars-past (46 ∷ 32 ∷ []) (drop (at + n) line) (ascii-two 46 32 (omega arith) (omega arith)) f,
+                    v .text,
+                    part-from line (at + n + 2),
+                    drop-drop 2 (at + n) line,
+                    digits-part,
+                    mark-some (take-while is-digit rest) (omega (arith, d)),
+                  );
+            }
+
+-- ---- the order of the tests
+line-eq : (r : Reader) (l t : List ℕ) → trim l ≡ t
+    → read-line r l
+    ≡ (if is-empty t then reader (flush r) []
+    else if starts "#" t then heading t r
+    else case (list-marker l) (read-text r l t) (λ m. added (Item (m .depth) (m .marker) (spans (m .item))) r))
+unfolding read-line
+line-eq r l t e = rw e
+
+text-eq : (r : Reader) (l t : List ℕ)
+    → read-text r l t
+    ≡ (if is-rule t then reader (flush r) []
+    else if starts "|" t then added (Paragraph (spans (row t))) r
+    else if is-empty (r .paragraph) && starts " " l then continuation t r
+    else paragraph t r)
+unfolding read-text
+text-eq r l t = refl
+
+and-right : (t : Bool) → t && true ≡ t
+and-right true = refl
+and-right false = refl
+
+-- the first byte of a part
+module _ (line : List ℕ) (a b : ℕ) (some : a < b) (bound : b ≤ length line) where
+  part-cons : part line a b ≡ getD line a 0 ∷ take (b - a - 1) (drop (a + 1) line)
+  part-cons = let q : b - a ≡ suc (b - a - 1) = omega arith in rw (drop-next line a (omega arith)) (ap (λ (n : ℕ). take n (getD line a 0 ∷ drop (a + 1) line)) q)
+
+  pub part-some : is-empty (part line a b) ≡ false
+  part-some = rw part-cons
+
+  pub part-starts : (x : ℕ) → x < 0x80 → starts-with (x ∷ []) (chars (part line a b)) ≡ eqb (getD line a 0) x
+  part-starts x h = starts-chars (x ∷ []) (part line a b) (ascii-one x h) ∙ rw part-cons (and-right (eqb (getD line a 0) x))
+
+module _ (line : List ℕ) (a b : ℕ) (t : chars (part line a b) ≡ trim (chars line)) where
+  pub line-blank : a ≡ b → (r : Reader) → read-line r (chars line) ≡ reader (flush r) []
+  line-blank e r =
+      let q : chars (part line a b) ≡ [] = rw (e, part-none line b) chars-nil in
+      line-eq r (chars line) [] (sym t ∙ q)
+
+  module _ (some : a < b) (bound : b ≤ length line) where
+    not-blank : (r : Reader)
+        → read-line r (chars line)
+        ≡ (if eqb (getD line a 0) 35 then heading (chars (part line a b)) r
+        else case (list-marker (chars line)) (read-text r (chars line) (chars (part line a b))) (λ m. added (Item (m .depth) (m .marker) (spans (m .item))) r))
+    not-blank r =
+        line-eq r (chars line) (chars (part line a b)) (sym t)
+        ∙ rw (empty-chars (part line a b), part-some line a b some bound, part-starts line a b some bound 35 (omega arith))
+
+    pub line-hash : getD line a 0 ≡ 35 → (r : Reader) → read-line r (chars line) ≡ heading (chars (part line a b)) r
+    line-hash e r = not-blank r ∙ rw (eq-eqb (getD line a 0) 35 e)
+
+    -- the parts of a title count from where the trimmed line starts
+    pub line-titled : (l from to : ℕ) → getD line a 0 ≡ 35 → Titled (part line a b) l from to
+        → (a + to ≤ length line) × ((l ≤ 3) × Reads line (a + from) (a + to) (added (Heading l (spans (chars (part line (a + from) (a + to)))))))
+    line-titled l from to e v =
+        let i = v .inside in
+        let o = i .order in
+        let n = part-length line a b (omega arith) bound in
+        let h : to ≤ b - a = omega (arith, i .bound) in (
+          omega arith,
+          (
+            v .low,
+            record {
+              inside = record { order = omega arith; bound = omega arith };
+              reads = λ r. line-hash e r ∙ v .reads r ∙ rw (part-part line a b from to h);
+            },
+          ),
+        )
+
+    module _ (other : getD line a 0 ≡ 35 → ⊥) where
+      pub line-listed : (depth at stop from to : ℕ) → MarkerAt line depth at stop from to → ReadsItem line depth at stop from to
+      line-listed depth at stop from to v =
+          record { marker = v; reads = λ r. not-blank r ∙ rw (ne-eqb (getD line a 0) 35 other, v .reads) }
+
+      pub line-bare : list-marker (chars line) ≡ none → Bare line a b
+      line-bare e = record { text = t; some = some; bound = bound; other = other; unmarked = e }
+
+module _ (line : List ℕ) (a b : ℕ) (v : Bare line a b) where
+  bare-eq : (r : Reader)
+      → read-line r (chars line)
+      ≡ (if is-rule (chars (part line a b)) then reader (flush r) []
+      else if eqb (getD line a 0) 124 then added (Paragraph (spans (row (chars (part line a b))))) r
+      else if is-empty (r .paragraph) && eqb (getD line 0 0) 32 then continuation (chars (part line a b)) r
+      else paragraph (chars (part line a b)) r)
+  bare-eq r =
+      let s = v .some in
+      let l = v .bound in
+      let q : starts-with (32 ∷ []) (chars line) ≡ eqb (getD line 0 0) 32 =
+      (rw (part-from line 0) at (part-starts line 0 (length line) (omega arith) (omega arith) 32 (omega arith)))
+      in
+      not-blank line a b (v .text) s l r
+      ∙ rw (ne-eqb (getD line a 0) 35 (v .other), v .unmarked)
+      (text-eq r (chars line) (chars (part line a b)) ∙ rw (part-starts line a b s l 124 (omega arith), q))
+
+  pub bare-rule : is-rule (chars (part line a b)) ≡ true → (r : Reader) → read-line r (chars line) ≡ reader (flush r) []
+  bare-rule e r = bare-eq r ∙ rw e
+
+  module _ (n : is-rule (chars (part line a b)) ≡ false) where
+    pub bare-row : getD line a 0 ≡ 124
+        → (chars (part line a b) ≡ trim (chars line)) × Reads line a b (added (Paragraph (spans (row (chars (part line a b))))))
+    bare-row e =
+        let s = v .some in (
+          v .text,
+          record {
+            inside = record { order = omega arith; bound = v .bound };
+            reads = λ r. bare-eq r ∙ rw (n, eq-eqb (getD line a 0) 124 e);
+          },
+        )
+
+    module _ (o : getD line a 0 ≡ 124 → ⊥) where
+      pub bare-wrapped : getD line 0 0 ≡ 32 → ReadsText line a b (wrapped (chars (part line a b)))
+      bare-wrapped e =
+          record {
+            some = v .some;
+            bound = v .bound;
+            reads = λ r. bare-eq r ∙ rw (n, ne-eqb (getD line a 0) 124 o, eq-eqb (getD line 0 0) 32 e, and-right (is-empty (r .paragraph)));
+          }
+
+      pub bare-text : (getD line 0 0 ≡ 32 → ⊥) → ReadsText line a b (paragraph (chars (part line a b)))
+      bare-text e =
+          record {
+            some = v .some;
+            bound = v .bound;
+            reads = λ r. bare-eq r ∙ rw (n, ne-eqb (getD line a 0) 124 o, ne-eqb (getD line 0 0) 32 e, and-false (is-empty (r .paragraph)) false refl);
+          }

@@ -1,0 +1,43 @@
+-- A row of a table made in one pass: ` | `, and any other `|`, becomes ` · `; and what that means in a buffer.
+-- Assumes nothing.
+use Prim.Native.Nat.{ℕ, zero, suc, _+_, _*_, _-_, _≤_}
+use mathlib.Core.List.{List, [], _∷_, _++_}
+use mathlib.Core.Path.{_≡_}
+use lib.Dec.{eqb}
+use lib.ListN.{length}
+use Rattle.text.specs.Words.{if_then_else_, str, starts}
+use Rattle.text.specs.Utf8.{chars, encode}
+use Rattle.text.specs.Trim.{trim}
+use Rattle.markdown.specs.Blocks.{row}
+use Rattle.markdown.specs.Parts.{part}
+
+-- the first n characters belong to the ` | ` before them
+unfoldable pub cells : List ℕ → ℕ → List ℕ → List ℕ
+cells dot n [] = []
+cells dot (suc n) (c ∷ s) = cells dot n s
+cells dot zero (c ∷ s) =
+    let spaced = dot ++ cells dot 2 s in
+    let bar = dot ++ cells dot 0 s in
+    let kept = c ∷ cells dot 0 s in
+    if starts " | " (c ∷ s) then spaced
+    else if eqb c 124 then bar
+    else kept
+
+-- ` · `, and its bytes
+abbrev pub dot : List ℕ
+dot = str " · "
+
+abbrev pub dot-bytes : List ℕ
+dot-bytes = 32 ∷ 194 ∷ 183 ∷ 32 ∷ []
+
+-- the cells of the part from a to b of a buffer, stored from `at` on
+pub record CellsIs (work₀ work : List ℕ) (a b at r : ℕ) : Type 0 where
+  pub text : part work at r ≡ cells dot-bytes 0 (part work₀ a b)
+  pub low : at ≤ r
+  pub high : r ≤ at + 4 * (b - a)
+
+-- the row that the part from `from` to `to` is, stored from `at` on
+pub record RowIs (work₀ work : List ℕ) (from to at r : ℕ) : Type 0 where
+  pub text : trim (chars (part work at r)) ≡ row (chars (part work₀ from to))
+  pub low : at ≤ r
+  pub high : r ≤ at + 4 * (to - from)

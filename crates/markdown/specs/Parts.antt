@@ -1,0 +1,68 @@
+-- What the block reader's offsets mean: parts of the Markdown and of the work buffer, and the lines of a text without comments.
+-- Assumes nothing.
+use Prim.Native.Nat.{ℕ, _+_, _-_, _≤_, _<_}
+use mathlib.Core.Bool.{Bool, true, false, cond}
+use mathlib.Core.List.{List, [], _∷_, _++_}
+use mathlib.Core.Path.{_≡_}
+use lib.ListN.{length, take, drop}
+use Rattle.text.specs.Words.{str, starts-with}
+use Rattle.text.proofs.FindLaws.{until, since}
+use Rattle.markdown.specs.Blocks.{cleaned}
+use Rattle.markdown.specs.declared.lines.Line.{Line}
+
+abbrev pub source : Bool → List ℕ → List ℕ → List ℕ
+source true markdown work = work
+source false markdown work = markdown
+
+abbrev pub part : List ℕ → ℕ → ℕ → List ℕ
+part s from to = take (to - from) (drop from s)
+
+-- a part of the Markdown, or of the work buffer
+unfoldable pub text-of : List ℕ → List ℕ → Bool → ℕ → ℕ → List ℕ
+text-of markdown work copied from to = part (source copied markdown work) from to
+
+pub record Inside (s : List ℕ) (from to : ℕ) : Type 0 where
+  pub order : from ≤ to
+  pub bound : to ≤ length s
+
+-- the first line of a text, and what stands after it
+abbrev pub first-line : List ℕ → List ℕ
+first-line s = until 10 s
+
+abbrev pub other-lines : List ℕ → List ℕ
+other-lines s = drop 1 (since 10 s)
+
+-- the line that starts at offset i of the Markdown, once its comments are removed
+pub record LineIs (markdown : List ℕ) (i : ℕ) (work₀ work : List ℕ) (l : Line) : Type 0 where
+  pub bytes : text-of markdown work (l .copied) (l .from) (l .to) ≡ first-line (cleaned 0 (drop i markdown))
+  pub left : cleaned 0 (drop (l .next) markdown) ≡ other-lines (cleaned 0 (drop i markdown))
+  pub kept : drop (length markdown) work ≡ drop (length markdown) work₀
+  pub order : l .from ≤ l .to
+  pub low : l .to ≤ length markdown
+  pub short : l .to + i < l .next + l .from
+  pub bound : l .next ≤ length markdown + 1
+
+-- what stands from the first place of p on, and what stands after the comment that a text starts with
+abbrev pub from : List ℕ → List ℕ → List ℕ
+from p [] = []
+from p (c ∷ s) = cond (starts-with p (c ∷ s)) (c ∷ s) (from p s)
+
+abbrev pub past : List ℕ → List ℕ
+past s = drop 3 (from (str "-->") s)
+
+-- where a comment ends that starts at offset i
+pub record PastIs (markdown : List ℕ) (i r : ℕ) : Type 0 where
+  pub left : drop r markdown ≡ past (drop i markdown)
+  pub low : i < r
+  pub bound : r ≤ length markdown
+
+-- the rest of a line from an offset on, stored after what the buffer has of it
+pub record CommentedIs (markdown : List ℕ) (start have : ℕ) (work₀ work : List ℕ) (l : Line) : Type 0 where
+  pub copied : l .copied ≡ true
+  pub first : l .from ≡ 0
+  pub bytes : take (l .to) work ≡ take have work₀ ++ first-line (cleaned 0 (drop start markdown))
+  pub left : cleaned 0 (drop (l .next) markdown) ≡ other-lines (cleaned 0 (drop start markdown))
+  pub kept : drop (length markdown) work ≡ drop (length markdown) work₀
+  pub size : length work ≡ length work₀
+  pub short : l .to + start < l .next + have
+  pub bound : l .next ≤ length markdown + 1

@@ -1,0 +1,156 @@
+// Lines of the Markdown, once its comments are removed.
+ghost use Prim.Native.Nat.{_+_, _-_, _<_, _≤_};
+ghost use lib.Seq.{sets};
+ghost use mathlib.Core.Path.{_≡_};
+ghost use lib.ListN.{length, drop};
+ghost use Rattle.text.specs.Words.{starts};
+ghost use Rattle.markdown.specs.Parts.{part, source, text-of, Inside, PastIs, CommentedIs, LineIs};
+
+// A line: a part of the Markdown, or, where a comment was removed from it, of the work buffer; and where the next line starts.
+pub struct Line {
+    pub copied: bool,
+    pub from: usize,
+    pub to: usize,
+    pub next: usize,
+}
+
+// A part of one of two lent slices.
+pub(crate) fn text_of<'a>(
+    markdown: &'a [u8],
+    work: &'a [u8],
+    copied: bool,
+    from: usize,
+    to: usize,
+) -> &'a [u8]
+    requires { ⌜ Inside (source copied (now markdown) (now work)) from to ⌝ }
+    ensures { λ r. ⌜ now r ≡ text-of (now (markdown .entry)) (now (work .entry)) copied from to ⌝ }
+{
+    if copied {
+        return &work[from..to];
+    }
+    &markdown[from..to]
+}
+
+// Whether a comment starts at j.
+fn opens(markdown: &[u8], j: usize) -> bool
+    ensures { λ r. ⌜ r ≡ starts "<!--" (drop j (now (markdown .entry))) ⌝ }
+{
+    text::starts_with(markdown, j, b"<!--")
+}
+
+// Whether a comment ends at j.
+fn closes(markdown: &[u8], j: usize) -> bool
+    ensures { λ r. ⌜ r ≡ starts "-->" (drop j (now (markdown .entry))) ⌝ }
+{
+    text::starts_with(markdown, j, b"-->")
+}
+
+// Where the comment ends that starts at i, or the end of the Markdown where it is not closed.
+fn past_comment(markdown: &[u8], i: usize) -> usize
+    requires { ⌜ i < length (now markdown) ⌝ }
+    ensures { λ r. ⌜ PastIs (now (markdown .entry)) i r ⌝ }
+{
+    let mut j = i;
+    while j < markdown.len() {
+        if closes(markdown, j) {
+            return j + 3;
+        }
+        j += 1;
+    }
+    j
+}
+
+// The rest of a line from `start` on, after the k bytes of it that are in the work buffer: a comment stands in the line.
+fn commented(markdown: &[u8], start: usize, have: usize, work: &mut [u8]) -> Line
+    requires { ⌜ (start ≤ length (now markdown)) × ((have ≤ start) × (length (now markdown) ≤ length (now work))) ⌝ }
+    ensures { λ r. ⌜ CommentedIs (now (markdown .entry)) start have (now (work .entry)) (now (work .exit)) r ⌝ }
+{
+    let mut j = start;
+    let mut k = have;
+    while j < markdown.len() {
+        let b = markdown[j];
+        if b == b'\n' {
+            return Line {
+                copied: true,
+                from: 0,
+                to: k,
+                next: j + 1,
+            };
+        }
+        if opens(markdown, j) {
+            j = past_comment(markdown, j);
+            continue;
+        }
+        work[k] = b;
+        k += 1;
+        j += 1;
+    }
+    Line {
+        copied: true,
+        from: 0,
+        to: k,
+        next: j + 1,
+    }
+}
+
+// The line that starts at i.
+pub(crate) fn next_line(markdown: &[u8], i: usize, work: &mut [u8]) -> Line
+    requires { ⌜ (i ≤ length (now markdown)) × (length (now markdown) ≤ length (now work)) ⌝ }
+    ensures { λ r. ⌜ LineIs (now (markdown .entry)) i (now (work .entry)) (now (work .exit)) r ⌝ }
+{
+    let mut j = i;
+    while j < markdown.len() {
+        let b = markdown[j];
+        if b == b'\n' {
+            return Line {
+                copied: false,
+                from: i,
+                to: j,
+                next: j + 1,
+            };
+        }
+        if opens(markdown, j) {
+            records::writer::put_bytes(work, 0, &markdown[i..j]);
+            return commented(markdown, j, j - i, work);
+        }
+        j += 1;
+    }
+    Line {
+        copied: false,
+        from: i,
+        to: j,
+        next: j + 1,
+    }
+}
+
+// Stores the part from `from` to `to` of the buffer from `at` on, behind that part.
+fn copy_part(work: &mut [u8], from: usize, to: usize, at: usize)
+    requires { ⌜ (from ≤ to) × ((to ≤ at) × (at + (to - from) ≤ length (now work))) ⌝ }
+    ensures { λ _. ⌜ now (work .exit) ≡ sets (now (work .entry)) at (part (now (work .entry)) from to) ⌝ }
+{
+    let n = to - from;
+    let mut i = 0;
+    while i < n {
+        work[at + i] = work[from + i];
+        i += 1;
+    }
+}
+
+// Stores a part of the Markdown, or of the work buffer, from `at` on.
+pub(crate) fn put_text(
+    markdown: &[u8],
+    work: &mut [u8],
+    copied: bool,
+    from: usize,
+    to: usize,
+    at: usize,
+)
+    requires { ⌜ (from ≤ to) × ((to ≤ length (now markdown)) × ((length (now markdown) ≤ at) × (at + (to - from) ≤ length (now work)))) ⌝ }
+    ensures { λ _. ⌜ now (work .exit) ≡ sets (now (work .entry)) at (text-of (now (markdown .entry)) (now (work .entry)) copied from to) ⌝ }
+{
+    if copied {
+        copy_part(work, from, to, at);
+        return;
+    }
+    records::writer::put_bytes(work, at, &markdown[from..to]);
+}

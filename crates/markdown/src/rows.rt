@@ -1,0 +1,78 @@
+// A row of a table, made in the work buffer.
+ghost use Prim.Native.Nat.{_+_, _-_, _*_, _≤_};
+ghost use mathlib.Core.Path.{_≡_};
+ghost use lib.ListN.{length, take};
+ghost use Rattle.text.specs.Words.{starts, trim-end-matches};
+ghost use Rattle.markdown.specs.Parts.{part};
+ghost use Rattle.markdown.specs.Cells.{dot-bytes, CellsIs, RowIs};
+ghost use Rattle.text.specs.Utf8.{chars, Scalars};
+ghost use lib.Seq.{sets};
+ghost use lib.Dec.{eqb};
+use crate::shape::run_of;
+
+// Where s ends without the bytes b at its end.
+fn run_end(s: &[u8], b: u8) -> usize
+    ensures { λ r. ⌜ (take r (now (s .entry)) ≡ trim-end-matches (λ x. eqb x b) (now (s .entry))) × (r ≤ length (now (s .entry))) ⌝ }
+{
+    let mut e = s.len();
+    while 0 < e {
+        let last = e - 1;
+        if s[last] != b {
+            return e;
+        }
+        e = last;
+    }
+    e
+}
+
+// Whether ` | ` stands at the start.
+fn is_spaced(s: &[u8]) -> bool
+    ensures { λ r. ⌜ r ≡ starts " | " (now (s .entry)) ⌝ }
+{
+    text::starts_with(s, 0, b" | ")
+}
+
+// Stores ` · `.
+fn put_dot(out: &mut [u8], at: usize)
+    ensures { λ _. ⌜ now (out .exit) ≡ sets (now (out .entry)) at dot-bytes ⌝ }
+{
+    records::writer::put_bytes(out, at, b" \xC2\xB7 ");
+}
+
+// Stores the cells of the part from a to b of the buffer from `at` on, behind that part, and answers where they end.
+fn put_cells(work: &mut [u8], a: usize, b: usize, at: usize) -> usize
+    requires { ⌜ (a ≤ b) × ((b ≤ at) × (at + 4 * (b - a) ≤ length (now work))) ⌝ }
+    ensures { λ r. ⌜ CellsIs (now (work .entry)) (now (work .exit)) a b at r ⌝ }
+{
+    let mut i = a;
+    let mut k = at;
+    while i < b {
+        if is_spaced(&work[i..b]) {
+            put_dot(work, k);
+            i += 3;
+            k += 4;
+            continue;
+        }
+        let c = work[i];
+        if c == b'|' {
+            put_dot(work, k);
+            i += 1;
+            k += 4;
+            continue;
+        }
+        work[k] = c;
+        i += 1;
+        k += 1;
+    }
+    k
+}
+
+// Stores the row of a table that the part from `from` to `to` of the buffer is, as above.
+pub(crate) fn put_row(work: &mut [u8], from: usize, to: usize, at: usize) -> usize
+    requires { ⌜ (from ≤ to) × ((to ≤ at) × ((at + 4 * (to - from) ≤ length (now work)) × Scalars (chars (part (now work) from to)))) ⌝ }
+    ensures { λ r. ⌜ RowIs (now (work .entry)) (now (work .exit)) from to at r ⌝ }
+{
+    let a = from + run_of(&work[from..to], b'|');
+    let b = a + run_end(&work[a..to], b'|');
+    put_cells(work, a, b, at)
+}

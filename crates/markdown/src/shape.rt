@@ -1,0 +1,214 @@
+// The shape of a line: heading, item, rule, row or text.
+ghost use Prim.Native.Nat.{_+_, _-_, _*_};
+ghost use mathlib.Core.Path.{_≡_};
+ghost use mathlib.Core.Bool.{_||_};
+ghost use lib.ListN.{length, drop};
+ghost use Rattle.text.specs.Words.{starts, matches, take-while};
+ghost use Rattle.markdown.specs.Parts.{Inside};
+ghost use Rattle.markdown.specs.Shape.{Trimmed, TitleIs, MarkerIs, Bare, Says};
+ghost use Rattle.markdown.specs.Blocks.{is-rule};
+ghost use Rattle.text.specs.Chars.{is-digit};
+ghost use Rattle.text.specs.Utf8.{chars};
+ghost use lib.Dec.{eqb};
+
+// Where a part starts and ends.
+pub struct Range {
+    pub from: usize,
+    pub to: usize,
+}
+
+// The part of s from `from` to `to` without the spaces at its ends.
+pub(crate) fn trimmed(s: &[u8], from: usize, to: usize) -> Range
+    requires { ⌜ Inside (now s) from to ⌝ }
+    ensures { λ r. ⌜ Trimmed (now (s .entry)) from to r ⌝ }
+{
+    let a = from + text::start_of(&s[from..to]);
+    let b = a + text::end_of(&s[a..to]);
+    Range { from: a, to: b }
+}
+
+// How many bytes b s starts with.
+pub(crate) fn run_of(s: &[u8], b: u8) -> usize
+    ensures { λ r. ⌜ r ≡ length (take-while (λ x. eqb x b) (now (s .entry))) ⌝ }
+{
+    let mut i = 0;
+    while i < s.len() {
+        if s[i] != b {
+            return i;
+        }
+        i += 1;
+    }
+    i
+}
+
+fn is_digit(b: u8) -> bool
+    ensures { λ r. ⌜ r ≡ is-digit b ⌝ }
+{
+    (48 <= b) & (b <= 57)
+}
+
+// How many digits s starts with.
+fn digits_of(s: &[u8]) -> usize
+    ensures { λ r. ⌜ r ≡ length (take-while is-digit (now (s .entry))) ⌝ }
+{
+    let mut i = 0;
+    while i < s.len() {
+        if !is_digit(s[i]) {
+            return i;
+        }
+        i += 1;
+    }
+    i
+}
+
+// `-`, `*` or `_`.
+fn is_mark(b: u8) -> bool
+    ensures { λ r. ⌜ r ≡ matches "-*_" b ⌝ }
+{
+    (b == b'-') | (b == b'*') | (b == b'_')
+}
+
+// What a rule may have.
+fn is_ruled(b: u8) -> bool
+    ensures { λ r. ⌜ r ≡ matches "-*_ |:" b ⌝ }
+{
+    is_mark(b) | (b == b' ') | (b == b'|') | (b == b':')
+}
+
+// Whether a trimmed line is a rule.
+fn is_rule(line: &[u8]) -> bool
+    ensures { λ r. ⌜ r ≡ is-rule (chars (now (line .entry))) ⌝ }
+{
+    if line.len() < 3 {
+        return false;
+    }
+    let mut marked = false;
+    let mut i = 0;
+    while i < line.len() {
+        let b = line[i];
+        if !is_ruled(b) {
+            return false;
+        }
+        marked = marked | is_mark(b);
+        i += 1;
+    }
+    marked
+}
+
+// What a trimmed line that starts with `#` is.
+pub enum Title {
+    // A heading: its level, and where its text starts and ends.
+    Named(usize, usize, usize),
+    Plain,
+}
+
+fn heading(line: &[u8]) -> Title
+    ensures { λ r. ⌜ TitleIs (now (line .entry)) r ⌝ }
+{
+    let level = run_of(line, b'#');
+    if 6 < level {
+        return Title::Plain;
+    }
+    if !text::starts_with(line, level, b" ") {
+        return Title::Plain;
+    }
+    let t = trimmed(line, level, line.len());
+    if level < 3 {
+        return Title::Named(level, t.from, t.to);
+    }
+    Title::Named(3, t.from, t.to)
+}
+
+// An item's depth, where its digits start and end, and where its text does.
+pub enum Marker {
+    At(usize, usize, usize, usize, usize),
+    Unmarked,
+}
+
+// Whether a bullet stands at i.
+fn is_bullet(line: &[u8], i: usize) -> bool
+    ensures { λ r. ⌜ r ≡ starts "- " (drop i (now (line .entry))) || starts "* " (drop i (now (line .entry))) || starts "+ " (drop i (now (line .entry))) ⌝ }
+{
+    text::starts_with(line, i, b"- ")
+        | text::starts_with(line, i, b"* ")
+        | text::starts_with(line, i, b"+ ")
+}
+
+fn list_marker(line: &[u8]) -> Marker
+    ensures { λ r. ⌜ MarkerIs (now (line .entry)) r ⌝ }
+{
+    let at = text::start_of(line);
+    if is_bullet(line, at) {
+        let t = trimmed(line, at + 2, line.len());
+        return Marker::At(at / 2, at, at, t.from, t.to);
+    }
+    let n = digits_of(&line[at..]);
+    if n == 0 {
+        return Marker::Unmarked;
+    }
+    if 9 < n {
+        return Marker::Unmarked;
+    }
+    let stop = at + n;
+    if !text::starts_with(line, stop, b". ") {
+        return Marker::Unmarked;
+    }
+    let t = trimmed(line, stop + 2, line.len());
+    Marker::At(at / 2, at, stop, t.from, t.to)
+}
+
+// What a line is to the reader, and which part of it counts.
+pub enum Class {
+    // A blank line or a rule.
+    Ends,
+    // A heading, with its level.
+    Headed(usize, usize, usize),
+    // A line that starts with `#` and is no heading: it opens a paragraph.
+    Opens(usize, usize),
+    // An item: its depth, where its digits start and end, and its text.
+    Listed(usize, usize, usize, usize, usize),
+    // A row of a table.
+    Row(usize, usize),
+    // An indented line of text.
+    Wrapped(usize, usize),
+    // Any other line of text.
+    Text(usize, usize),
+}
+
+// A line that neither starts with `#` nor has a list marker; its trimmed part is from a to b.
+fn unmarked(line: &[u8], a: usize, b: usize) -> Class
+    requires { ⌜ Bare (now line) a b ⌝ }
+    ensures { λ r. ⌜ Says (now (line .entry)) r ⌝ }
+{
+    if is_rule(&line[a..b]) {
+        return Class::Ends;
+    }
+    if line[a] == b'|' {
+        return Class::Row(a, b);
+    }
+    if line[0] == b' ' {
+        return Class::Wrapped(a, b);
+    }
+    Class::Text(a, b)
+}
+
+pub(crate) fn classify(line: &[u8]) -> Class
+    ensures { λ r. ⌜ Says (now (line .entry)) r ⌝ }
+{
+    let t = trimmed(line, 0, line.len());
+    let a = t.from;
+    let b = t.to;
+    if a == b {
+        return Class::Ends;
+    }
+    if line[a] == b'#' {
+        let Title::Named(level, from, to) = heading(&line[a..b]) else {
+            return Class::Opens(a, b);
+        };
+        return Class::Headed(level, a + from, a + to);
+    }
+    match list_marker(line) {
+        Marker::At(depth, at, stop, from, to) => Class::Listed(depth, at, stop, from, to),
+        Marker::Unmarked => unmarked(line, a, b),
+    }
+}
