@@ -9,6 +9,8 @@ use lib.ListN.{length, take, drop}
 use Rattle.text.specs.Outcome.{Outcome, number, returned}
 use Rattle.html.specs.declared.Answer as H
 use Rattle.html.specs.Answers.{answer-number, answer-length}
+use Rattle.markdown.specs.declared.Answer as MA
+use Rattle.markdown.specs.Answers as M
 use Rattle.records.specs.Answers.{Answer, at-end, refused, gives, BlockValues, Emphasis}
 use Rattle.sheet.specs.Calls as S
 use Rattle.sheet.specs.Calls.{no-utf8, no-sheet, yes-sheet}
@@ -23,6 +25,9 @@ written-struct o = record { number = number o; length = returned o }
 
 abbrev pub page-struct : H.Answer → Written
 page-struct a = record { number = answer-number a; length = answer-length a }
+
+abbrev pub markdown-struct : MA.Answer → Written
+markdown-struct a = record { number = M.answer-number a; length = M.answer-length a }
 
 abbrev pub or-0 : Option ℕ → ℕ
 or-0 none = 0

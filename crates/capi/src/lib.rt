@@ -5,8 +5,10 @@ ghost use Rattle.records.specs.Answers.{block-answer, marker-answer, span-answe
 ghost use lib.ListN.{length};
 ghost use Rattle.html.specs.Calls.{html-to-markdown-call};
 ghost use Rattle.html.specs.Answers.{result-after, WorkKept};
+ghost use Rattle.markdown.specs.Calls.{blocks-call};
+ghost use Rattle.markdown.specs.Answers.{result-after as records-after, work-kept};
 ghost use Rattle.sheet.specs.Calls.{sheet-call};
-ghost use Rattle.capi.specs.Values.{bit, page-struct, written-struct, block-struct, span-struct, sheet-struct, PartIs};
+ghost use Rattle.capi.specs.Values.{bit, page-struct, markdown-struct, written-struct, block-struct, span-struct, sheet-struct, PartIs};
 use records::walker::BlockAnswer;
 use records::walker::SpanAnswer;
 use sheet::Verdict;
@@ -53,6 +55,44 @@ pub extern "C" fn rn_html_to_markdown(page: &[u8], work: &mut [u8], result: &mut
 {
     let answer = html::html_to_markdown(page, work, result);
     page_written(answer)
+}
+
+fn markdown_written(a: markdown::Answer) -> Written
+    ensures { λ r. ⌜ r ≡ markdown-struct a ⌝ }
+{
+    match a {
+        markdown::Answer::Length(n) => Written {
+            number: 0,
+            length: n,
+        },
+        markdown::Answer::NotUtf8 => Written {
+            number: 1,
+            length: 0,
+        },
+        markdown::Answer::SmallWork => Written {
+            number: 2,
+            length: 0,
+        },
+        markdown::Answer::TooLong => Written {
+            number: 5,
+            length: 0,
+        },
+        markdown::Answer::SmallResult => Written {
+            number: 6,
+            length: 0,
+        },
+    }
+}
+
+#[no_mangle]
+pub extern "C" fn rn_blocks(markdown: &[u8], work: &mut [u8], result: &mut [u8]) -> Written
+    ensures { λ r. ⌜ (r ≡ written-struct (blocks-call (now (markdown .entry)) (length (now (work .entry))) (length (now (result .entry)))))
+        × ((now (result .exit) ≡ records-after (blocks-call (now (markdown .entry)) (length (now (work .entry))) (length (now (result .entry)))) (now (result .entry)))
+        × (work-kept (blocks-call (now (markdown .entry)) (length (now (work .entry))) (length (now (result .entry)))) (now (work .exit))
+        ≡ work-kept (blocks-call (now (markdown .entry)) (length (now (work .entry))) (length (now (result .entry)))) (now (work .entry)))) ⌝ }
+{
+    let answer = markdown::blocks(markdown, work, result);
+    markdown_written(answer)
 }
 
 // A block: kind 0 is the end of the records, 1 a heading, 2 a paragraph, 3 an item. Where number is not 0, all else is 0.
