@@ -78,6 +78,9 @@ pub fn nl(page: &[u8], at: usize) -> usize
 fn is_shown(c: u32) -> bool
     ensures { λ r. ⌜ r ≡ shown c ⌝ }
 {
+    if c < 0x80 {
+        return (32 < c) & (c != 127) & (c != 60) & (c != 38);
+    }
     !text::is_control(c) & !text::is_space(c) & (c != 60) & (c != 38)
 }
 
