@@ -19,7 +19,7 @@ use Rattle.sheet.specs.Reading.{strip}
 use Rattle.sheet.specs.Grammar.{shown}
 use Rattle.sheet.specs.Reader.{Answer, own, means, char, text}
 use Rattle.sheet.specs.Says.{from}
-use Rattle.sheet.specs.Facts.{Spelt}
+use Rattle.sheet.specs.Facts.{referred, Spelt}
 use Rattle.sheet.specs.Sound.{none-some, bind-inv, guard-inv, alt-inv}
 use Rattle.sheet.specs.declared.line.Glyph.{Glyph}
 use Rattle.sheet.specs.declared.line.Glyph.the-variants as G
@@ -93,35 +93,40 @@ module _ (page : List ℕ) (at : ℕ) where
   unfolding own
   not-own l h = rw (turn-is page at l .rest, h)
 
+-- another than one that stands for itself
+pub char-other : (s : List ℕ) → own s ≡ none → char s ≡ referred s
+unfolding char referred
+char-other s e = rw e
+
 -- each reference after those before it
-module _ (s : List ℕ) (e₁ : own s ≡ none) where
-  pub char-1 : {r : List ℕ} → strip (str " ") s ≡ some r → char s ≡ some (str " ", r)
-  unfolding char
-  char-1 f = rw (e₁, f)
+module _ (s : List ℕ) where
+  pub char-1 : {r : List ℕ} → strip (str " ") s ≡ some r → referred s ≡ some (str " ", r)
+  unfolding referred
+  char-1 f = rw f
 
-  module _ (e₂ : strip (str " ") s ≡ none) where
-    pub char-2 : {r : List ℕ} → strip (str "&lt;") s ≡ some r → char s ≡ some (str "<", r)
-    unfolding char
-    char-2 f = rw (e₁, e₂, f)
+  module _ (e₁ : strip (str " ") s ≡ none) where
+    pub char-2 : {r : List ℕ} → strip (str "&lt;") s ≡ some r → referred s ≡ some (str "<", r)
+    unfolding referred
+    char-2 f = rw (e₁, f)
 
-    module _ (e₃ : strip (str "&lt;") s ≡ none) where
-      pub char-3 : {r : List ℕ} → strip (str "&amp;") s ≡ some r → char s ≡ some (str "&", r)
-      unfolding char
-      char-3 f = rw (e₁, e₂, e₃, f)
+    module _ (e₂ : strip (str "&lt;") s ≡ none) where
+      pub char-3 : {r : List ℕ} → strip (str "&amp;") s ≡ some r → referred s ≡ some (str "&", r)
+      unfolding referred
+      char-3 f = rw (e₁, e₂, f)
 
-      module _ (e₄ : strip (str "&amp;") s ≡ none) where
-        pub char-4 : {r : List ℕ} → strip (str "&gt;") s ≡ some r → char s ≡ some (str ">", r)
-        unfolding char
-        char-4 f = rw (e₁, e₂, e₃, e₄, f)
+      module _ (e₃ : strip (str "&amp;") s ≡ none) where
+        pub char-4 : {r : List ℕ} → strip (str "&gt;") s ≡ some r → referred s ≡ some (str ">", r)
+        unfolding referred
+        char-4 f = rw (e₁, e₂, e₃, f)
 
-        module _ (e₅ : strip (str "&gt;") s ≡ none) where
-          pub char-5 : {r : List ℕ} → strip (str "&quot;") s ≡ some r → char s ≡ some (str "\"", r)
-          unfolding char
-          char-5 f = rw (e₁, e₂, e₃, e₄, e₅, f)
+        module _ (e₄ : strip (str "&gt;") s ≡ none) where
+          pub char-5 : {r : List ℕ} → strip (str "&quot;") s ≡ some r → referred s ≡ some (str "\"", r)
+          unfolding referred
+          char-5 f = rw (e₁, e₂, e₃, e₄, f)
 
-          pub char-6 : strip (str "&quot;") s ≡ none → char s ≡ none
-          unfolding char
-          char-6 f = rw (e₁, e₂, e₃, e₄, e₅, f)
+          pub char-6 : strip (str "&quot;") s ≡ none → referred s ≡ none
+          unfolding referred
+          char-6 f = rw (e₁, e₂, e₃, e₄, f)
 
 -- ---- the text
 
