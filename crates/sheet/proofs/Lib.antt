@@ -39,6 +39,7 @@ mod TestRuns
 mod TestLine
 mod TestForms
 mod TestItems
+mod TestExamples
 mod TestBlocks
 mod TestPage
 pub mod TestCall

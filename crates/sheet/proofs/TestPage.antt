@@ -24,6 +24,7 @@ use Rattle.sheet.specs.Forms.{block-form}
 use Rattle.sheet.specs.Pages.{judged}
 use Rattle.sheet.specs.Calls.{small, sheet, Tested, no-utf8, no-sheet, yes-sheet, sheet-call, answer}
 use Rattle.sheet.specs.declared.count.Count.{Count}
+use Rattle.sheet.specs.declared.Verdict.the-variants.{Yes, No}
 use Rattle.sheet.proofs.TestCount.{weight-append, size-ascii}
 use Rattle.sheet.proofs.TestMany.{every, many-every, nl-shrinks, then-nl-shrinks, Read-to, to-none, to-more, to-stop}
 use Rattle.sheet.proofs.TestSays.{Got}
@@ -76,6 +77,16 @@ module _ (page : List ℕ) (start : ℕ) where
       }
 
 -- ---- the verdict
+module _ (w : Count) {b c : ℕ} (e : b ≡ w .bytes - 2) (f : c ≡ w .chars - 2) where
+  pub judged-yes : b < 16000 → c ≤ 8000 → Yes b c ≡ judged w
+  judged-yes h i = sym (rw (lt-ltb (w .bytes - 2) 16000 (omega arith), le-leb (w .chars - 2) 8000 (omega arith), e, f))
+
+  pub judged-chars : b < 16000 → 8000 < c → No ≡ judged w
+  judged-chars h i = sym (rw (lt-ltb (w .bytes - 2) 16000 (omega arith), lt-leb (w .chars - 2) 8000 (omega arith)))
+
+  pub judged-bytes : 16000 ≤ b → No ≡ judged w
+  judged-bytes h = sym (rw (le-ltb (w .bytes - 2) 16000 (omega arith)))
+
 module _ (bs : List Block) {w : Count} (e : w ≡ weight (led bs)) where
   bytes : w .bytes ≡ min (size (led bs)) 20000
   unfolding weight

@@ -3,23 +3,75 @@
 use Prim.Native.Nat.{ℕ, _+_, _≤_, _<_}
 use native.Mathlib.Omega.{arith}
 use mathlib.Core.Path.{_≡_, refl, sym, _∙_, ap, subst}
-use mathlib.Core.Bool.{true, false}
+use mathlib.Core.Bool.{true, false, not, _&&_}
 use mathlib.Core.Option.{none, some}
 use mathlib.Core.Logic.{⊎-elim}
 use mathlib.Core.List.{List, [], _∷_, _++_, append-nil, append-assoc}
+use borrow.Author.Tests.{lt-ltb, le-ltb, le-leb, lt-leb, ne-eqb, ltb-true, ltb-false, leb-true, leb-false, eqb-true, eqb-false}
+use lib.Dec.{eqb, leb, ltb}
 use lib.ListN.{length}
 use Rattle.text.specs.Words.{str}
+use Rattle.text.specs.Chars.{is-space, is-control}
 use Rattle.text.specs.Utf8.{utf8, code-at}
+use Rattle.text.proofs.Tests.{decide}
 use Rattle.text.proofs.Laws.{turn-is, advance-end}
 use Rattle.sheet.specs.Reading.{strip}
 use Rattle.sheet.specs.Grammar.{shown}
 use Rattle.sheet.specs.Reader.{Answer, own, means, char, text}
 use Rattle.sheet.specs.Says.{from}
-use Rattle.sheet.specs.Facts.{Spelt}
+use Rattle.sheet.specs.Facts.{referred, Spelt}
 use Rattle.sheet.specs.Sound.{none-some, bind-inv, guard-inv, alt-inv}
 use Rattle.sheet.specs.declared.line.Glyph.{Glyph}
 use Rattle.sheet.specs.declared.line.Glyph.the-variants as G
 use Rattle.sheet.proofs.TestMany.{Shrinks, every-more, every-stop, strip-shrinks}
+
+-- ---- an ASCII character that stands for itself
+shown-low : (c : ℕ) → c ≤ 31 → (ltb 32 c && not (eqb c 127) && not (eqb c 60) && not (eqb c 38)) ≡ shown c
+unfolding shown is-control
+shown-low c h = rw (le-leb c 31 h, le-ltb 32 c (omega arith))
+
+shown-high : (c : ℕ) → 32 < c → c < 127 → (ltb 32 c && not (eqb c 127) && not (eqb c 60) && not (eqb c 38)) ≡ shown c
+unfolding shown is-control is-space
+shown-high c l h =
+    let ne : (k : ℕ) → (c ≡ k → ⊥) → eqb c k ≡ false = λ k n. ne-eqb c k n in
+    rw (
+      lt-ltb 32 c l,
+      ne 127 (λ e. omega arith),
+      lt-leb c 31 (omega arith),
+      lt-leb 127 c h,
+      le-leb 9 c (omega arith),
+      lt-leb c 13 (omega arith),
+      ne 32 (λ e. omega arith),
+      ne 133 (λ e. omega arith),
+      ne 160 (λ e. omega arith),
+      ne 5760 (λ e. omega arith),
+      lt-leb 8192 c (omega arith),
+      ne 8232 (λ e. omega arith),
+      ne 8233 (λ e. omega arith),
+      ne 8239 (λ e. omega arith),
+      ne 8287 (λ e. omega arith),
+      ne 12288 (λ e. omega arith),
+    )
+
+pub shown-ascii : (c : ℕ) → c < 0x80 → (ltb 32 c && not (eqb c 127) && not (eqb c 60) && not (eqb c 38)) ≡ shown c
+unfolding shown is-control is-space
+shown-ascii c h =
+    ⊎-elim (λ e. shown-low c (leb-true c 31 e))
+    (λ e. let m = leb-false c 31 e in
+    ⊎-elim (λ e. at 32 (eqb-true c 32 e) refl)
+    (λ e. let n = eqb-false c 32 e in
+    ⊎-elim (λ e. at 127 (eqb-true c 127 e) refl) (λ e. let k = eqb-false c 127 e in shown-high c (above n m) (below k h)) (decide (eqb c 127)))
+    (decide (eqb c 32)))
+    (decide (leb c 31))
+  where
+    at : (k : ℕ) → c ≡ k → (ltb 32 k && not (eqb k 127) && not (eqb k 60) && not (eqb k 38)) ≡ shown k → (ltb 32 c && not (eqb c 127) && not (eqb c 60) && not (eqb c 38)) ≡ shown c
+    at k e h = subst (λ (c : ℕ). (ltb 32 c && not (eqb c 127) && not (eqb c 60) && not (eqb c 38)) ≡ shown c) (sym e) h
+
+    above : (c ≡ 32 → ⊥) → 31 < c → 32 < c
+    above n m = ⊎-elim (λ e. ltb-true 32 c e) (λ e. let z = ltb-false 32 c e in absurd (n (omega arith))) (decide (ltb 32 c))
+
+    below : (c ≡ 127 → ⊥) → c < 0x80 → c < 127
+    below n m = ⊎-elim (λ e. ltb-true c 127 e) (λ e. let z = ltb-false c 127 e in absurd (n (omega arith))) (decide (ltb c 127))
 
 -- ---- the character at an offset
 module _ (page : List ℕ) (at : ℕ) where
@@ -41,35 +93,40 @@ module _ (page : List ℕ) (at : ℕ) where
   unfolding own
   not-own l h = rw (turn-is page at l .rest, h)
 
+-- another than one that stands for itself
+pub char-other : (s : List ℕ) → own s ≡ none → char s ≡ referred s
+unfolding char referred
+char-other s e = rw e
+
 -- each reference after those before it
-module _ (s : List ℕ) (e₁ : own s ≡ none) where
-  pub char-1 : {r : List ℕ} → strip (str " ") s ≡ some r → char s ≡ some (str " ", r)
-  unfolding char
-  char-1 f = rw (e₁, f)
+module _ (s : List ℕ) where
+  pub char-1 : {r : List ℕ} → strip (str " ") s ≡ some r → referred s ≡ some (str " ", r)
+  unfolding referred
+  char-1 f = rw f
 
-  module _ (e₂ : strip (str " ") s ≡ none) where
-    pub char-2 : {r : List ℕ} → strip (str "&lt;") s ≡ some r → char s ≡ some (str "<", r)
-    unfolding char
-    char-2 f = rw (e₁, e₂, f)
+  module _ (e₁ : strip (str " ") s ≡ none) where
+    pub char-2 : {r : List ℕ} → strip (str "&lt;") s ≡ some r → referred s ≡ some (str "<", r)
+    unfolding referred
+    char-2 f = rw (e₁, f)
 
-    module _ (e₃ : strip (str "&lt;") s ≡ none) where
-      pub char-3 : {r : List ℕ} → strip (str "&amp;") s ≡ some r → char s ≡ some (str "&", r)
-      unfolding char
-      char-3 f = rw (e₁, e₂, e₃, f)
+    module _ (e₂ : strip (str "&lt;") s ≡ none) where
+      pub char-3 : {r : List ℕ} → strip (str "&amp;") s ≡ some r → referred s ≡ some (str "&", r)
+      unfolding referred
+      char-3 f = rw (e₁, e₂, f)
 
-      module _ (e₄ : strip (str "&amp;") s ≡ none) where
-        pub char-4 : {r : List ℕ} → strip (str "&gt;") s ≡ some r → char s ≡ some (str ">", r)
-        unfolding char
-        char-4 f = rw (e₁, e₂, e₃, e₄, f)
+      module _ (e₃ : strip (str "&amp;") s ≡ none) where
+        pub char-4 : {r : List ℕ} → strip (str "&gt;") s ≡ some r → referred s ≡ some (str ">", r)
+        unfolding referred
+        char-4 f = rw (e₁, e₂, e₃, f)
 
-        module _ (e₅ : strip (str "&gt;") s ≡ none) where
-          pub char-5 : {r : List ℕ} → strip (str "&quot;") s ≡ some r → char s ≡ some (str "\"", r)
-          unfolding char
-          char-5 f = rw (e₁, e₂, e₃, e₄, e₅, f)
+        module _ (e₄ : strip (str "&gt;") s ≡ none) where
+          pub char-5 : {r : List ℕ} → strip (str "&quot;") s ≡ some r → referred s ≡ some (str "\"", r)
+          unfolding referred
+          char-5 f = rw (e₁, e₂, e₃, e₄, f)
 
-          pub char-6 : strip (str "&quot;") s ≡ none → char s ≡ none
-          unfolding char
-          char-6 f = rw (e₁, e₂, e₃, e₄, e₅, f)
+          pub char-6 : strip (str "&quot;") s ≡ none → referred s ≡ none
+          unfolding referred
+          char-6 f = rw (e₁, e₂, e₃, e₄, f)
 
 -- ---- the text
 

@@ -11,7 +11,7 @@ ghost use Rattle.sheet.specs.Reader.{char, kind, one-run, line};
 ghost use Rattle.sheet.specs.Written.{escaped, sign, written-runs};
 ghost use Rattle.sheet.specs.Weight.{weight};
 ghost use Rattle.sheet.specs.Says.{from, Says, Tagged, Skipped};
-ghost use Rattle.sheet.specs.Facts.{Spelt, gist, pushed, Scanned, kind-of, is-plain, has-em, suits, Opened, Ran, runs-of, joined-by};
+ghost use Rattle.sheet.specs.Facts.{referred, Spelt, gist, pushed, Scanned, kind-of, is-plain, has-em, suits, Opened, Ran, runs-of, joined-by};
 use crate::count::Count;
 use crate::count::Read;
 use crate::count::add;
@@ -78,23 +78,16 @@ pub fn nl(page: &[u8], at: usize) -> usize
 fn is_shown(c: u32) -> bool
     ensures { λ r. ⌜ r ≡ shown c ⌝ }
 {
+    if c < 0x80 {
+        return (32 < c) & (c != 127) & (c != 60) & (c != 38);
+    }
     !text::is_control(c) & !text::is_space(c) & (c != 60) & (c != 38)
 }
 
-// The character of text at `at`.
-fn glyph_at(page: &[u8], at: usize) -> Glyph
-    ensures { λ r. ⌜ Spelt (now (page .entry)) at (char (from (now (page .entry)) at)) r ⌝ }
+// Byte 32 or a reference at `at`.
+fn reference_at(page: &[u8], at: usize) -> Glyph
+    ensures { λ r. ⌜ Spelt (now (page .entry)) at (referred (from (now (page .entry)) at)) r ⌝ }
 {
-    if page.len() <= at {
-        return Glyph::No;
-    }
-    let code = text::code_at(page, at);
-    if is_shown(code) {
-        return Glyph::At {
-            code,
-            next: at + text::width(code),
-        };
-    }
     if text::starts_with(page, at, b" ") {
         return Glyph::At {
             code: 32,
@@ -126,6 +119,23 @@ fn glyph_at(page: &[u8], at: usize) -> Glyph
         };
     }
     Glyph::No
+}
+
+// The character of text at `at`.
+fn glyph_at(page: &[u8], at: usize) -> Glyph
+    ensures { λ r. ⌜ Spelt (now (page .entry)) at (char (from (now (page .entry)) at)) r ⌝ }
+{
+    if page.len() <= at {
+        return Glyph::No;
+    }
+    let code = text::code_at(page, at);
+    if is_shown(code) {
+        return Glyph::At {
+            code,
+            next: at + text::width(code),
+        };
+    }
+    reference_at(page, at)
 }
 
 // `\`, `*`, backtick, `[` or `!`.
