@@ -23,9 +23,7 @@ fn refuse(a: Answer) {
 
 // The first n bytes of the result, and byte 10.
 fn show(result: &[u8], n: usize) {
-    if n <= result.len() {
-        io::write_all(STDOUT_FILENO, &result[..n]);
-    }
+    io::write_all(STDOUT_FILENO, text::front(result, n));
     io::write_all(STDOUT_FILENO, b"\n");
 }
 

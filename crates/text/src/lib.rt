@@ -436,6 +436,16 @@ fn cut_end(s: &[u8], n: usize) -> usize
     n
 }
 
+// The first n bytes of s, or all of them.
+pub fn front(s: &[u8], n: usize) -> &[u8]
+    ensures { λ r. ⌜ now r ≡ take n (now (s .entry)) ⌝ }
+{
+    if s.len() <= n {
+        return s;
+    }
+    &s[..n]
+}
+
 // How many bytes the first n bytes of s are without a split character.
 pub fn cut_len(s: &[u8], n: usize) -> usize
     ensures { λ r. ⌜ r ≡ length (encode (cut n (chars (now (s .entry))))) ⌝ }
