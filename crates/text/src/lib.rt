@@ -446,6 +446,17 @@ pub fn front(s: &[u8], n: usize) -> &[u8]
     &s[..n]
 }
 
+// What follows the first n bytes of s, or nothing.
+pub fn past(s: &[u8], n: usize) -> &[u8]
+    ensures { λ r. ⌜ now r ≡ drop n (now (s .entry)) ⌝ }
+{
+    if s.len() <= n {
+        let e = s.len();
+        return &s[e..];
+    }
+    &s[n..]
+}
+
 // How many bytes the first n bytes of s are without a split character.
 pub fn cut_len(s: &[u8], n: usize) -> usize
     ensures { λ r. ⌜ r ≡ length (encode (cut n (chars (now (s .entry))))) ⌝ }
