@@ -1,4 +1,5 @@
-//! compare N [SEED]: N inputs to the port and to the published Rust. Prints how many of each kind were run and differ; ends with status 1 where any does.
+//! compare cases: the cases of crates/replay_sheets on standard output. compare N [SEED]: N inputs to the port and to the published Rust. Prints how many of each kind were run and differ; ends with status 1 where any does.
+mod cases;
 mod check;
 mod inputs;
 #[path = "../../target/compare/notes.rs"]
@@ -103,6 +104,9 @@ fn sheets(n: usize, seed: u64) -> Vec<Count> {
 }
 
 fn main() {
+    if std::env::args().nth(1).as_deref() == Some("cases") {
+        return cases::write();
+    }
     let words: Vec<u64> = std::env::args().skip(1).filter_map(|word| word.parse().ok()).collect();
     let (n, seed) = (*words.first().unwrap_or(&10_000) as usize, *words.get(1).unwrap_or(&1));
     let counts: Vec<Count> = [pages(n, seed), texts(n, seed), sheets(n, seed)].into_iter().flatten().collect();

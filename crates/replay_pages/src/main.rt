@@ -1,7 +1,10 @@
-// Replays stored answers of the Rust's `html_to_markdown`, read from standard input, and says how many differ. A case is four length bytes of the
-// page, four of the answer, the page and the answer; FFFFFF00 + n in place of the answer's length is refusal n. tools/replay-data made the cases.
+// Replays stored answers, read from standard input, and says how many differ. A case is four length bytes of the input, four of the answer, the
+// input and the answer; FFFFFF00 + n in place of the answer's length is refusal n. The module `case` has the call that is replayed.
 ghost use Prim.Native.Nat.{_≤_};
-use html::Answer;
+
+mod case;
+
+use case::agrees;
 use libc::STDIN_FILENO;
 use libc::STDOUT_FILENO;
 
@@ -21,18 +24,6 @@ fn stored(want: usize) -> usize
     ensures { λ r. ⌜ r ≤ 4294967295 ⌝ }
 {
     if want < 0xFFFFFF00 { want } else { 0 }
-}
-
-fn agrees(page: &[u8], want: usize, answer: &[u8]) -> bool {
-    let mut work = [0u8; 147456];
-    let mut result = [0u8; 32000];
-    match html::html_to_markdown(page, &mut work, &mut result) {
-        Answer::Length(n) => (n == want) & check::same(text::front(&result, n), answer),
-        Answer::NotUtf8 => want == 0xFFFFFF01,
-        Answer::SmallWork => want == 0xFFFFFF02,
-        Answer::SmallResult => want == 0xFFFFFF03,
-        Answer::TooManyLists => want == 0xFFFFFF04,
-    }
 }
 
 // The case that stands at the front.

@@ -1,0 +1,45 @@
+//! Sheets and near-sheets with what document 01 says of them, for the replay program: the reader of sheet.rs says yes or no, and the Rust
+//! gives the Markdown and the records.
+use crate::random::Random;
+use crate::{inputs, oracle, sheet, sheets};
+use std::io::Write;
+
+fn answer(page: &[u8]) -> Result<Vec<u8>, u32> {
+    let text = std::str::from_utf8(page).map_err(|_| 0xFFFF_FF01u32)?;
+    let found = sheet::read(text).ok_or(0xFFFF_FF00u32)?;
+    let markdown = oracle::html_to_markdown(text);
+    let mut out = (found.written.len() as u32).to_le_bytes().to_vec();
+    out.extend((found.written.chars().count() as u32).to_le_bytes());
+    out.extend(markdown.as_bytes());
+    out.extend(oracle::records(&oracle::blocks(&markdown)));
+    Ok(out)
+}
+
+fn case(page: &[u8]) -> Vec<u8> {
+    let found = answer(page);
+    let length = found.as_ref().map_or_else(|number| *number, |bytes| bytes.len() as u32);
+    let mut out = (page.len() as u32).to_le_bytes().to_vec();
+    out.extend(length.to_le_bytes());
+    out.extend(page);
+    out.extend(found.unwrap_or_default());
+    out
+}
+
+pub fn write() {
+    let (mut r, mut out) = (Random::new(1), Vec::new());
+    for k in 0..180 {
+        let page = match k % 4 {
+            0 => sheets::near(&mut r).into_bytes(),
+            1 => {
+                let page = sheets::random(&mut r).into_bytes();
+                inputs::damaged(&mut r, page)
+            }
+            _ => sheets::random(&mut r).into_bytes(),
+        };
+        out.extend(case(&page));
+    }
+    for _ in 0..2 {
+        out.extend(case(sheets::long(&mut r).as_bytes()));
+    }
+    std::io::stdout().write_all(&out).expect("standard output");
+}

@@ -1,0 +1,1 @@
+../../replay_pages/src/main.rt
