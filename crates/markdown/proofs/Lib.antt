@@ -1,3 +1,4 @@
+pub mod Basics
 pub mod LineLaws
 pub mod CommentLaws
 pub mod Reading
