@@ -16,3 +16,4 @@ pub mod LineSteps
 pub mod ReadLine
 pub mod ReadAll
 pub mod CallLaws
+pub mod Examples
