@@ -19,12 +19,9 @@ use Rattle.text.proofs.Laws.{utf8-ascii, chars-nil, chars-append, chars-encode,
 use Rattle.text.proofs.AsciiLaws.{Ascii, chars-ascii, encode-ascii}
 use Rattle.markdown.specs.Blocks.{replace, row}
 use Rattle.markdown.specs.Cells.{cells, dot, dot-bytes}
+use Rattle.markdown.proofs.Basics.{and-right, last-of}
 use Rattle.markdown.proofs.CommentLaws.{High, utf8-all-high, starts-high, starts-encode, drop-encode, scalars-drop}
 use Rattle.markdown.proofs.RunLaws.{run-chars, same-low}
-
-and-right : (t : Bool) → t && true ≡ t
-and-right true = refl
-and-right false = refl
 
 -- ---- one pass for two replacements
 pub replaced : (n : ℕ) (s : List ℕ) → replace "|" dot 0 (replace " | " dot n s) ≡ cells dot n s
@@ -161,14 +158,6 @@ module _ (p : ℕ → Bool) where
 same-last : (xs ys : List ℕ) (b d : ℕ) → xs ++ (b ∷ []) ≡ ys ++ (d ∷ []) → b ≡ d
 same-last xs ys b d e =
     ap (λ (l : List ℕ). getD l 0 0) (sym (reverse-append xs (b ∷ [])) ∙ ap reverse e ∙ reverse-append ys (d ∷ []))
-
-last-of : (cs : List ℕ) → (cs ≡ []) ⊎ ((ds : List ℕ) × (c : ℕ) × (cs ≡ ds ++ (c ∷ [])))
-last-of [] = inl refl
-last-of (c ∷ cs) = inr (more (last-of cs))
-  where
-    more : (cs ≡ []) ⊎ ((ds : List ℕ) × (d : ℕ) × (cs ≡ ds ++ (d ∷ []))) → (ds : List ℕ) × (d : ℕ) × (c ∷ cs ≡ ds ++ (d ∷ []))
-    more (inl e) = ([], c, ap (λ (l : List ℕ). c ∷ l) e)
-    more (inr (ds, d, e)) = (c ∷ ds, d, ap (λ (l : List ℕ). c ∷ l) e)
 
 -- an ASCII byte at the end of the bytes stands at the end of the characters, and nowhere else does its character
 module _ (x : ℕ) (low : x < 0x80) where

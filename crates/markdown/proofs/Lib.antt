@@ -1,3 +1,4 @@
+pub mod Basics
 pub mod LineLaws
 pub mod CommentLaws
 pub mod Reading
@@ -15,3 +16,4 @@ pub mod LineSteps
 pub mod ReadLine
 pub mod ReadAll
 pub mod CallLaws
+pub mod Examples

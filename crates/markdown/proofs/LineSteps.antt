@@ -26,10 +26,12 @@ use Rattle.markdown.specs.Shape.{Trimmed, wrapped}
 use Rattle.markdown.specs.State.{plain-after, span-start, continued-after, continued-out, ItemAt, LastIs, Holds, Safe, grown, Given, Steps, ends}
 use Rattle.markdown.specs.declared.shape.Range.{Range}
 use Rattle.markdown.specs.declared.writer.State.{State}
+use Rattle.markdown.proofs.Basics.{not-empty}
 use Rattle.markdown.proofs.PartLaws.{part-length}
 use Rattle.markdown.proofs.RunLaws.{size-chars, empty-chars}
-use Rattle.markdown.proofs.StateLaws.{safe-inside, text-length, text-none, given-small, block-small, plain-step, steps-then, holds-continued, spans-length}
-use Rattle.markdown.proofs.ParagraphLaws.{stored-text, not-empty}
+use Rattle.markdown.proofs.StoreLaws.{start-low}
+use Rattle.markdown.proofs.StateLaws.{moved-safe, safe-inside, text-length, text-none, given-small, block-small, plain-step, steps-then, holds-continued, spans-length}
+use Rattle.markdown.proofs.ParagraphLaws.{stored-text}
 
 -- ---- a row
 -- the buffer changes while no paragraph is open
@@ -43,7 +45,7 @@ moved-step md work work₁ out s u e z =
             last = v .last;
             paragraph = v .paragraph ∙ text-none md work (s .copied) (s .from) (s .to) z ∙ sym (text-none md work₁ (s .copied) (s .from) (s .to) z);
           };
-      safe = record { small = u .small; room = omega (arith, u .room); order = u .order; place = u .place; head = u .head; fields = u .fields; count = u .count; map = u .map };
+      safe = moved-safe md work work₁ s u e;
       grows = omega arith;
       short = omega arith;
     }
@@ -108,9 +110,6 @@ module _ (s : State) where
   start-count : s .count ≤ s .at → s .count ≤ span-start s
   start-count h = on (λ (n : ℕ). s .count ≤ n) (eqb (s .count) 0) (λ e. omega (arith, eqb-true (s .count) 0 e)) (λ _. h)
 
-  start-high : s .fields ≤ s .at → span-start s ≤ s .at + 4
-  start-high h = on (λ (n : ℕ). n ≤ s .at + 4) (eqb (s .count) 0) (λ _. omega arith) (λ _. omega arith)
-
 module _ (md work : List ℕ) (s : State) (copied : Bool) (from to : ℕ) (g : Given md work s from to) where
   pub continue-text : (out out₁ text : List ℕ) (r : State) → text ≡ text-of md work copied from to → s .item && eqb (s .from) (s .to) ≡ true
       → r ≡ continued-after s (spans (chars text)) → out₁ ≡ continued-out s (spans (chars text)) out
@@ -125,7 +124,7 @@ module _ (md work : List ℕ) (s : State) (copied : Bool) (from to : ℕ) (g : G
       let k = spans-small (chars text) in
       let m = spans-length more in
       let x = size-chars text in
-      let y = start-high s (u .fields) in
+      let y = start-low s (u .fields) in
       let i = start-fields s (u .fields) in
       let j = start-count s (u .count) in
       rw (e, ← t)

@@ -18,6 +18,7 @@ use Rattle.markdown.specs.Blocks.{Reader, reader, joined, paragraph}
 use Rattle.markdown.specs.Parts.{part, source, text-of, Inside}
 use Rattle.markdown.specs.State.{placed, ItemAt, LastIs, Owned, Holds, Placed, Safe, grown, Given, Steps, starts-with-text}
 use Rattle.markdown.specs.declared.writer.State.{State}
+use Rattle.markdown.proofs.Basics.{not-empty}
 use Rattle.markdown.proofs.PartLaws.{part-none, part-length}
 use Rattle.markdown.proofs.RunLaws.{empty-chars}
 use Rattle.markdown.proofs.CellFill.{sets-part, sets-below, part-below}
@@ -57,10 +58,6 @@ module _ (work₀ : List ℕ) (from to at : ℕ) where
         let n = part-length work₀ from to o (omega arith) in
         let d : drop i (part work₀ from to) ≡ [] = drop-of-length-le (part work₀ from to) {i = i} (omega arith) in
         rw d at (v .left)
-
-pub not-empty : (l : List ℕ) → 1 ≤ length l → is-empty l ≡ false
-not-empty [] q = absurd (omega arith)
-not-empty (x ∷ l) q = refl
 
 -- ---- the text of a line stays where it is while the buffer changes behind it
 pub text-below : (md work₀ work : List ℕ) (copied : Bool) (from to : ℕ) → to ≤ length md → take (length md) work ≡ take (length md) work₀

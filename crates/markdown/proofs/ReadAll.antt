@@ -18,6 +18,7 @@ use Rattle.markdown.specs.State.{fresh, ItemAt, LastIs, Holds, Placed, S
 use Rattle.markdown.specs.declared.lines.Line.{Line}
 use Rattle.markdown.specs.declared.writer.State.{State}
 use Rattle.markdown.proofs.LineLaws.{after, chars-after, final, final-line, final-end}
+use Rattle.markdown.proofs.StateLaws.{moved-safe}
 use Rattle.markdown.proofs.CommentLaws.{chars-cleaned, scalars-split, scalars-drop}
 
 pub record Reading (md work₀ work out₀ out : List ℕ) (i : ℕ) (s : State) : Type 0 where
@@ -73,15 +74,10 @@ module _ (md work₀ work out₀ out : List ℕ) (i : ℕ) (s : State) (v : Read
       (subst Scalars (ap chars (sym (until-since 10 S)) ∙ chars-append (until 10 S) (since 10 S) (since-lead 10 (omega arith) S)) (v .scalars))
 
   module _ (work₁ : List ℕ) (l : Line) (h : i < length md) (w : LineIs md i work work₁ l) (z : length work₁ ≡ length work) where
-    kept-safe : Safe md work₁ s
-    kept-safe =
-        let u = v .safe in
-        record { small = u .small; room = omega (arith, u .room); order = u .order; place = u .place; head = u .head; fields = u .fields; count = u .count; map = u .map }
-
     pub reading-line : LineGiven md work₁ s l
     reading-line =
         record {
-          safe = kept-safe;
+          safe = moved-safe md work work₁ s (v .safe) z;
           low = omega (arith, v .low, v .safe .small);
           order = w .order;
           bound = w .low;

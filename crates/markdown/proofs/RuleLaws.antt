@@ -15,6 +15,7 @@ use Rattle.text.proofs.Tests.{decide, and-true, and-false}
 use Rattle.text.proofs.Laws.{chars-nil}
 use Rattle.text.proofs.AsciiLaws.{chars-ascii}
 use Rattle.markdown.specs.Blocks.{is-rule}
+use Rattle.markdown.proofs.Basics.{or-false, or-assoc}
 use Rattle.markdown.proofs.Reading.{drop-next}
 use Rattle.markdown.proofs.RunLaws.{ruled-low, all-chars, size-chars}
 
@@ -25,10 +26,6 @@ abbrev pub marks : ℕ → Bool
 marks = matches "-*_"
 
 -- ---- tests in another order
-pub or-false : (a : Bool) → a || false ≡ a
-or-false true = refl
-or-false false = refl
-
 pub three : (a b c : Bool) → (a || b) || c ≡ a || (b || (c || false))
 three true b c = refl
 three false true c = refl
@@ -39,10 +36,6 @@ six true b c d e f = refl
 six false true c d e f = refl
 six false false true d e f = refl
 six false false false d e f = three d e f
-
-or-assoc : (a b c : Bool) → (a || b) || c ≡ a || (b || c)
-or-assoc true b c = refl
-or-assoc false b c = refl
 
 -- ---- the loop
 ascii-of : (s : List ℕ) → all ruled s ≡ true → chars s ≡ s

@@ -137,3 +137,10 @@ pub starts-in : (ps s : List ℕ) (i : ℕ) → 1 ≤ length ps → starts-with 
 starts-in ps s i h e =
     let n = simp (length-append, length-drop) at (ap length (starts-split ps (drop i s) e)) in
     omega arith
+
+-- a literal does not stand past the end, nor where another byte than its first stands
+pub starts-past : (d : ℕ) (ps s : List ℕ) (i : ℕ) → length s ≤ i → false ≡ starts-with (d ∷ ps) (drop i s)
+starts-past d ps s i h = rw (drop-of-length-le s h)
+
+pub starts-not : (d : ℕ) (ps s : List ℕ) (i : ℕ) → i < length s → (getD s i 0 ≡ d → ⊥) → false ≡ starts-with (d ∷ ps) (drop i s)
+starts-not d ps s i h n = rw (drop-next s i h, ne-eqb (getD s i 0) d n)

@@ -25,6 +25,7 @@ use Rattle.markdown.specs.Blocks.{is-rule, Marked, marked, marker-at, li
 use Rattle.markdown.specs.Parts.{part, Inside}
 use Rattle.markdown.specs.Shape.{Trimmed, Titled, mark, item-of, MarkerAt, Reads, ReadsText, ReadsItem, wrapped, Bare, Says}
 use Rattle.markdown.specs.declared.shape.Range.{Range}
+use Rattle.markdown.proofs.Basics.{and-right}
 use Rattle.markdown.proofs.Reading.{drop-next}
 use Rattle.markdown.proofs.PartLaws.{part-from, part-none, part-length, part-part}
 use Rattle.markdown.proofs.RunLaws.{run-chars, run-take, run-all, run-le, run-split, same-low, digit-low, size-encode, size-chars, empty-chars, chars-past, starts-in}
@@ -216,10 +217,6 @@ text-eq : (r : Reader) (l t : List ℕ)
     else paragraph t r)
 unfolding read-text
 text-eq r l t = refl
-
-and-right : (t : Bool) → t && true ≡ t
-and-right true = refl
-and-right false = refl
 
 -- the first byte of a part
 module _ (line : List ℕ) (a b : ℕ) (some : a < b) (bound : b ≤ length line) where

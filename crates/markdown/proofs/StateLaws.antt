@@ -25,6 +25,7 @@ use Rattle.markdown.specs.Blocks.{Reader, reader, flush, added, continue
 use Rattle.markdown.specs.Parts.{part, source, text-of, Inside}
 use Rattle.markdown.specs.State.{counted, plain-after, item-after, span-start, continued-after, continued-out, closed, ItemAt, LastIs, Holds, Placed, Safe, grown, Given, Steps, ends, placed, starts-with-text}
 use Rattle.markdown.specs.declared.writer.State.{State}
+use Rattle.markdown.proofs.Basics.{not-empty}
 use Rattle.markdown.proofs.PartLaws.{part-none, part-length}
 use Rattle.markdown.proofs.RunLaws.{size-chars, empty-chars}
 use Rattle.markdown.proofs.StoreLaws.{block-length, kind-short}
@@ -179,12 +180,12 @@ module _ (md work out₀ out : List ℕ) (q : Reader) (s : State) (v : Holds md 
         last = λ more. refl;
         paragraph = sym (text-none md work false 0 0 refl);
       })
-    where
-      not-empty : (l : List ℕ) → 1 ≤ length l → is-empty l ≡ false
-      not-empty [] h = absurd (omega arith)
-      not-empty (x ∷ l) h = refl
 
 -- ---- steps
+pub moved-safe : (md work work₁ : List ℕ) (s : State) → Safe md work s → length work₁ ≡ length work → Safe md work₁ s
+moved-safe md work work₁ s u e =
+    record { small = u .small; room = omega (arith, u .room); order = u .order; place = u .place; head = u .head; fields = u .fields; count = u .count; map = u .map }
+
 module _ (md work out : List ℕ) (s : State) (u : Safe md work s) where
   pub flush-none : s .from ≡ s .to → Steps md work work out out s s 393221 0 ends
   flush-none e =

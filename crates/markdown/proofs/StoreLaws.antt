@@ -238,5 +238,5 @@ module _
         in
         i ∙ ap (λ (x : List ℕ). sets x (s .head) ((s .map + 8) ∷ [])) q
 
-pub start-low : (s : State) → s .at ≤ 412316860416 → s .fields ≤ s .at → span-start s ≤ s .at + 4
-start-low s h f = on (λ (n : ℕ). n ≤ s .at + 4) (eqb (s .count) 0) (λ _. omega arith) (λ _. omega arith)
+pub start-low : (s : State) → s .fields ≤ s .at → span-start s ≤ s .at + 4
+start-low s f = on (λ (n : ℕ). n ≤ s .at + 4) (eqb (s .count) 0) (λ _. omega arith) (λ _. omega arith)

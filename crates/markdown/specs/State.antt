@@ -89,9 +89,9 @@ abbrev pub continued-out : State → List Span → List ℕ → List ℕ
 continued-out s more out =
     sets (sets (sets out (span-start s) (space-bytes ++ encode-spans more)) (s .fields) (le32 (s .count + 1 + length more))) (s .head) ((s .map + 8) ∷ [])
 
--- the paragraph is closed
-abbrev pub closed : State → State
-closed s =
+-- the paragraph is put elsewhere
+abbrev pub placed : State → Bool → ℕ → ℕ → State
+placed s copied from to =
     record {
       at = s .at;
       item = s .item;
@@ -99,10 +99,14 @@ closed s =
       map = s .map;
       fields = s .fields;
       count = s .count;
-      copied = false;
-      from = 0;
-      to = 0;
+      copied = copied;
+      from = from;
+      to = to;
     }
+
+-- the paragraph is closed
+abbrev pub closed : State → State
+closed s = placed s false 0 0
 
 -- the last block is an item, and this is where its record is
 pub record ItemAt (bs : List Block) (s : State) : Type 0 where
@@ -126,21 +130,6 @@ pub record Holds (markdown work out₀ out : List ℕ) (r : Reader) (s : State) 
   pub end : s .at ≡ length (encode-blocks (reverse (r .blocks)))
   pub last : LastIs (s .item) (r .blocks) s
   pub paragraph : r .paragraph ≡ chars (text-of markdown work (s .copied) (s .from) (s .to))
-
--- the paragraph is put elsewhere
-abbrev pub placed : State → Bool → ℕ → ℕ → State
-placed s copied from to =
-    record {
-      at = s .at;
-      item = s .item;
-      head = s .head;
-      map = s .map;
-      fields = s .fields;
-      count = s .count;
-      copied = copied;
-      from = from;
-      to = to;
-    }
 
 -- the open paragraph is in the second part of the work buffer
 pub record Owned (markdown work₀ work : List ℕ) (s : State) : Type 0 where

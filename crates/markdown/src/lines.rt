@@ -35,6 +35,12 @@ pub(crate) fn text_of<'a>(
 fn opens(markdown: &[u8], j: usize) -> bool
     ensures { λ r. ⌜ r ≡ starts "<!--" (drop j (now (markdown .entry))) ⌝ }
 {
+    if markdown.len() <= j {
+        return false;
+    }
+    if markdown[j] != b'<' {
+        return false;
+    }
     text::starts_with(markdown, j, b"<!--")
 }
 
@@ -42,6 +48,12 @@ fn opens(markdown: &[u8], j: usize) -> bool
 fn closes(markdown: &[u8], j: usize) -> bool
     ensures { λ r. ⌜ r ≡ starts "-->" (drop j (now (markdown .entry))) ⌝ }
 {
+    if markdown.len() <= j {
+        return false;
+    }
+    if markdown[j] != b'-' {
+        return false;
+    }
     text::starts_with(markdown, j, b"-->")
 }
 

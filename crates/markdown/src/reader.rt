@@ -231,39 +231,26 @@ fn wrapped_line(
 }
 
 // A line is read.
-pub(crate) fn read_line(
-    markdown: &[u8],
-    work: &mut [u8],
-    out: &mut [u8],
-    s: State,
-    line: Line,
-) -> State
-    requires { ⌜ LineGiven (now markdown) (now work) s line ⌝ }
-    ensures { λ r. ⌜ Steps (now (markdown .entry)) (now (work .entry)) (now (work .exit)) (now (out .entry)) (now (out .exit)) s r 2000000 (grown s + (line .to - line .from))
-        (λ q. read-line q (chars (text-of (now (markdown .entry)) (now (work .entry)) (line .copied) (line .from) (line .to)))) ⌝ }
+pub(crate) fn read_line(md: &[u8], work: &mut [u8], out: &mut [u8], s: State, line: Line) -> State
+    requires { ⌜ LineGiven (now md) (now work) s line ⌝ }
+    ensures { λ r. ⌜ Steps (now (md .entry)) (now (work .entry)) (now (work .exit)) (now (out .entry)) (now (out .exit)) s r 2000000 (grown s + (line .to - line .from))
+        (λ q. read-line q (chars (text-of (now (md .entry)) (now (work .entry)) (line .copied) (line .from) (line .to)))) ⌝ }
 {
     let copied = line.copied;
     let at = line.from;
-    let class = classify(text_of(markdown, work, copied, at, line.to));
+    let class = classify(text_of(md, work, copied, at, line.to));
     match class {
-        Class::Ends => flush(markdown, work, out, s),
-        Class::Headed(level, from, to) => heading_line(
-            markdown,
-            work,
-            out,
-            s,
-            level,
-            copied,
-            at + from,
-            at + to,
-        ),
+        Class::Ends => flush(md, work, out, s),
+        Class::Headed(level, from, to) => {
+            heading_line(md, work, out, s, level, copied, at + from, at + to)
+        }
         Class::Opens(from, to) => {
-            let p = flush(markdown, work, out, s);
-            open_paragraph(markdown, work, p, copied, at + from, at + to)
+            let p = flush(md, work, out, s);
+            open_paragraph(md, work, p, copied, at + from, at + to)
         }
         Class::Listed(depth, first, stop, from, to) => {
             item_line(
-                markdown,
+                md,
                 work,
                 out,
                 s,
@@ -275,16 +262,8 @@ pub(crate) fn read_line(
                 at + to,
             )
         }
-        Class::Row(from, to) => row_line(markdown, work, out, s, copied, at + from, at + to),
-        Class::Wrapped(from, to) => wrapped_line(
-            markdown,
-            work,
-            out,
-            s,
-            copied,
-            at + from,
-            at + to,
-        ),
-        Class::Text(from, to) => add_text(markdown, work, s, copied, at + from, at + to),
+        Class::Row(from, to) => row_line(md, work, out, s, copied, at + from, at + to),
+        Class::Wrapped(from, to) => { wrapped_line(md, work, out, s, copied, at + from, at + to) }
+        Class::Text(from, to) => add_text(md, work, s, copied, at + from, at + to),
     }
 }

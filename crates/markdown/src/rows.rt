@@ -29,6 +29,12 @@ fn run_end(s: &[u8], b: u8) -> usize
 fn is_spaced(s: &[u8]) -> bool
     ensures { λ r. ⌜ r ≡ starts " | " (now (s .entry)) ⌝ }
 {
+    if s.len() == 0 {
+        return false;
+    }
+    if s[0] != b' ' {
+        return false;
+    }
     text::starts_with(s, 0, b" | ")
 }
 

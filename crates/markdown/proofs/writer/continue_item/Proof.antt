@@ -16,7 +16,7 @@ put-space-requires : tie.Need-put-space-requires
 put-space-requires c κs = search needs
 
 add-spans : tie.Need-add-spans
-add-spans c = let p = c .before .before .before .before .before .before .before .before .pre in omega (arith, c .before .before .before .before .before .next-span .ensures, start-low (c .before .before .before .before .before .before .before .before .args .s) (p .0) (p .1 .1 .0), p .0)
+add-spans c = let p = c .before .before .before .before .before .before .before .before .pre in omega (arith, c .before .before .before .before .before .next-span .ensures, start-low (c .before .before .before .before .before .before .before .before .args .s) (p .1 .1 .0), p .0)
 
 spans-requires : tie.Need-spans-requires
 spans-requires c κs = search needs
@@ -44,7 +44,7 @@ returns c =
     let p = c .before .before .before .before .before .before .before .before .before .before .before .before .before .before .before .before .before .before .before .before .before .before .pre in
     let e = c .before .before .before .before .before .before .before .before .before .before .before .before .before .spans .ensures in
     let n = c .before .before .before .before .before .before .before .before .before .before .before .before .before .before .before .before .before .before .before .next-span .ensures in
-    let l = start-low (c .before .before .before .before .before .before .before .before .before .before .before .before .before .before .before .before .before .before .before .before .before .before .args .s) (p .0) (p .1 .1 .0) in
+    let l = start-low (c .before .before .before .before .before .before .before .before .before .before .before .before .before .before .before .before .before .before .before .before .before .before .args .s) (p .1 .1 .0) in
     let o = c .before .before .before .before .before .before .before .before .before .before .before .before .before .before .before .before .before .before .before .before .before .before .args .out .now in
     (continue-state (c .before .before .before .before .before .before .before .before .before .before .before .before .before .before .before .before .before .before .before .before .before .before .args .s) _ o _ _ _ _ _ _ n (omega (arith, n, l, p .0)) (p .1 .0) (e .0) (e .1 .0) (c .before .before .before .before .before .before .before .before .before .before .before .before .before .before .before .before .before .put-space .ensures) (e .1 .1) (c .before .before .before .before .before .before .before .put-u32 .ensures) (c .before .before .put .ensures), continue-out (c .before .before .before .before .before .before .before .before .before .before .before .before .before .before .before .before .before .before .before .before .before .before .args .s) _ o _ _ _ _ _ _ n (omega (arith, n, l, p .0)) (p .1 .0) (e .0) (e .1 .0) (c .before .before .before .before .before .before .before .before .before .before .before .before .before .before .before .before .before .put-space .ensures) (e .1 .1) (c .before .before .before .before .before .before .before .put-u32 .ensures) (c .before .before .put .ensures))
 
