@@ -135,8 +135,8 @@ put-weight first x c = go (escape first x (c .out) && not (c .pre))
     go false = omega arith
 
 -- ---- the turn of the loop over a text
-pub record Inking (raw : List ℕ) (s : State) (n : ℕ) (out : List ℕ) (p : Pen) (i : ℕ) : Type 0 where
-  pub same : put-all (p .first) (unescape 0 (chars (drop i raw))) (pen-state s p out) ≡ text (chars raw) s
+pub record Inking (raw : List ℕ) (s t : State) (n : ℕ) (out : List ℕ) (p : Pen) (i : ℕ) : Type 0 where
+  pub same : put-all (p .first) (unescape 0 (chars (drop i raw))) (pen-state s p out) ≡ t
   pub valid : Scalars (chars (drop i raw))
   pub bound : i ≤ length raw
   pub room : p .len + pending (p .space) + 2 * (length raw - i) ≤ n + 1 + 2 * length raw
@@ -149,7 +149,7 @@ pen-pre : (s : State) (p : Pen) (w : List ℕ) → pen-state s p w .pre ≡ s .p
 unfolding pen-state
 pen-pre s p w = refl
 
-module _ (raw : List ℕ) (s : State) (n : ℕ) (out : List ℕ) (p : Pen) (i : ℕ) (k : Inking raw s n out p i) (u : Piece) (v : Unescaped raw i u) where
+module _ (raw : List ℕ) (s t : State) (n : ℕ) (out : List ℕ) (p : Pen) (i : ℕ) (k : Inking raw s t n out p i) (u : Piece) (v : Unescaped raw i u) where
   pub some-size : 1 ≤ length (utf8 (u .code))
   some-size = utf8-size (u .code) .0
 
@@ -157,13 +157,13 @@ module _ (raw : List ℕ) (s : State) (n : ℕ) (out : List ℕ) (p : Pen) (i : 
   ink-room = omega (arith, k .room, some-size, v .size, v .bound)
 
   step : (f : Bool) (c : State) → next (p .first) (u .code) (pen-state s p out) ≡ (f, c)
-      → put-all f (unescape 0 (chars (drop (u .next) raw))) c ≡ text (chars raw) s
+      → put-all f (unescape 0 (chars (drop (u .next) raw))) c ≡ t
   unfolding put-all
   step f c e =
       sym (ap (λ (l : List ℕ). put-all (p .first) l (pen-state s p out)) (v .is) ∙ ap (λ (n : Bool × State). put-all (n .0) (unescape 0 (chars (drop (u .next) raw))) (n .1)) e)
       ∙ k .same
 
-  pub ink-pause : (r : Pen) → blank (s .pre) (u .code) ≡ true → pen-state s r out ≡ paused (pen-state s p out) → r .first ≡ p .first → Inking raw s n out r (u .next)
+  pub ink-pause : (r : Pen) → blank (s .pre) (u .code) ≡ true → pen-state s r out ≡ paused (pen-state s p out) → r .first ≡ p .first → Inking raw s t n out r (u .next)
   unfolding next blank paused pen-state
   ink-pause r b e f =
       let z : r .len ≡ p .len = sym (size-out (r .len) out) ∙ ap (λ (c : State). size (c .out)) e ∙ size-out (p .len) out in
@@ -175,7 +175,7 @@ module _ (raw : List ℕ) (s : State) (n : ℕ) (out : List ℕ) (p : Pen) (i : 
       }
 
   pub ink-write : (r : Pen) (out' : List ℕ) → blank (s .pre) (u .code) ≡ false → pen-state s r out' ≡ put (p .first) (u .code) (spaced (pen-state s p out)) → r .first ≡ false
-      → Inking raw s n out' r (u .next)
+      → Inking raw s t n out' r (u .next)
   unfolding next blank
   ink-write r out' b e f =
       let w = ap weight e in
@@ -190,9 +190,9 @@ module _ (raw : List ℕ) (s : State) (n : ℕ) (out : List ℕ) (p : Pen) (i : 
         room = omega (arith, k .room, some-size, v .size, v .bound);
       }
 
-pub ink-done : (raw : List ℕ) (s : State) (n : ℕ) (out : List ℕ) (p : Pen) (i : ℕ) → Inking raw s n out p i → length raw ≤ i → pen-state s p out ≡ text (chars raw) s
+pub ink-done : (raw : List ℕ) (s t : State) (n : ℕ) (out : List ℕ) (p : Pen) (i : ℕ) → Inking raw s t n out p i → length raw ≤ i → pen-state s p out ≡ t
 unfolding put-all
-ink-done raw s n out p i k h = sym (rw (advance-end raw i h, unescape-nil)) ∙ k .same
+ink-done raw s t n out p i k h = sym (rw (advance-end raw i h, unescape-nil)) ∙ k .same
 
 -- ---- the character at an offset
 pub scalars-drop : (n : ℕ) (cs : List ℕ) → Scalars cs → Scalars (drop n cs)

@@ -1,109 +1,28 @@
--- `Converter::text` meets its contract: what is left of the text makes the same state.
+-- `Converter::text` meets its contract.
 -- Assumes nothing.
-use borrow.Author.Needs.{needs}
 use mathlib.Core.Path.{_≡_, refl, sym, ap, _∙_}
-use native.Mathlib.Omega.{arith}
 use denote.Ref.{now}
-use Prim.Native.Nat.{ℕ, _+_, _-_, _*_, _≤_, _<_}
-use lib.ListN.{length, getD}
 use Rattle.html.specs.Struct.{state-of}
 use Rattle.html.specs.State.{text}
-use Rattle.html.specs.Pen.{pen-state, Unescaped}
-use Rattle.text.specs.Utf8.{utf8}
-use Rattle.html.proofs.TextLaws.{Inking, pending-most, some-size, ink-room, ink-pause, ink-write, ink-done, piece, piece-ascii, plain-ascii, plain-not-and, plain-not-blank}
+use Rattle.html.specs.Pen.{pen-state}
+use borrow.Author.Needs.{needs}
 use Rattle.html.proofs.Converter.text.Statement.{statement}
 use Rattle.html.proofs.Converter.text.Tie as tie
 use Rattle.html.proofs.Converter.text.Reads as reads
 use Rattle.html.proofs.Converter.text.Lts as lts
-use Rattle.html.proofs.words.Pen.letter.Reads as letter-reads
-use Rattle.html.proofs.words.Pen.pause.Reads as pause-reads
-use Rattle.html.proofs.words.Pen.write.Reads as write-reads
-use Rattle.html.proofs.words.blank.Reads as blank-reads
-use Rattle.html.proofs.words.plain.Reads as plain-reads
-use Rattle.html.proofs.words.unescaped.Reads as unescaped-reads
+use Rattle.html.proofs.words.ink.Reads as ink-reads
 
-abbrev Inv-loop : tie.InvT-loop
-Inv-loop self out₀ raw pre p₀ i₀ out p i = Inking raw (state-of self out₀) (self .len) out p i × (length out ≡ length out₀)
+ink-requires : tie.Need-ink-requires
+ink-requires c κs = search needs
 
-abbrev μ-loop : tie.MeasureT-loop
-μ-loop self out₀ raw pre p₀ i₀ out p i = length raw - i
-
-loop-holds : tie.Need-loop-holds Inv-loop μ-loop
-unfolding pen-state state-of text
-loop-holds c = (record { same = refl; valid = c .before .before .pre .1; bound = omega arith; room = omega (arith, pending-most (c .before .before .args .self .space)) }, refl)
-
-shared-slice-read-b : tie.Need-shared-slice-read-b Inv-loop μ-loop
-shared-slice-read-b c = c .before .loop-test .taken
-
-plain-requires : tie.Need-plain-requires Inv-loop μ-loop
-plain-requires c κs = search needs
-
-letter-requires : tie.Need-letter-requires Inv-loop μ-loop
-letter-requires c κs = let a = c .before .before .before .before .before .before .before .before .args in let l = c .before .before .before .before .before .loop in let s = state-of (a .self) (now (a .out)) in let b = getD (now (a .raw)) (l .i) 0 in let h = sym (c .before .before .plain .ensures) ∙ c .before .if1 .taken in let u = piece b (l .i + 1) in let v : Unescaped (now (a .raw)) (l .i) u = piece-ascii (now (a .raw)) (l .i) (c .before .before .before .before .loop-test .taken) (l .inv .0 .valid) (plain-ascii b h) (plain-not-and b h) in (omega (arith, ink-room (now (a .raw)) s (a .self .len) (l .out) (l .p) (l .i) (l .inv .0) u v, some-size (now (a .raw)) s (a .self .len) (l .out) (l .p) (l .i) (l .inv .0) u v, l .inv .1, c .before .before .before .before .before .before .before .before .pre .0), h)
-
-add-i : tie.Need-add-i Inv-loop μ-loop
-add-i c = omega (arith, c .before .before .before .before .before .before .before .loop-test .taken, c .before .before .before .before .before .before .before .before .before .before .before .good)
-
-loop-less : tie.Need-loop-less Inv-loop μ-loop
-loop-less c = omega (arith, c .before .before .before .before .before .before .before .loop-test .taken)
-
-loop-again : tie.Need-loop-again Inv-loop μ-loop
-unfolding state-of
-loop-again c = let a = c .before .before .before .before .before .before .before .before .before .before .before .args in let l = c .before .before .before .before .before .before .before .before .loop in let s = state-of (a .self) (now (a .out)) in let b = getD (now (a .raw)) (l .i) 0 in let h = sym (c .before .before .before .before .before .plain .ensures) ∙ c .before .before .before .before .if1 .taken in let u = piece b (l .i + 1) in let v : Unescaped (now (a .raw)) (l .i) u = piece-ascii (now (a .raw)) (l .i) (c .before .before .before .before .before .before .before .loop-test .taken) (l .inv .0 .valid) (plain-ascii b h) (plain-not-and b h) in (ink-write (now (a .raw)) s (a .self .len) (l .out) (l .p) (l .i) (l .inv .0) u v _ _ (plain-not-blank b h (a .self .pre)) (c .before .before .letter .ensures .0 s) (c .before .before .letter .ensures .1), search needs)
-
-unescaped-requires : tie.Need-unescaped-requires Inv-loop μ-loop
-unescaped-requires c κs = (c .before .before .before .loop-test .taken, c .before .before .before .before .loop .inv .0 .valid)
-
-blank-requires : tie.Need-blank-requires Inv-loop μ-loop
-blank-requires c κs = search needs
-
-pause-requires : tie.Need-pause-requires Inv-loop μ-loop
-pause-requires c κs = let a = c .before .before .before .before .before .before .before .before .before .before .before .args in let l = c .before .before .before .before .before .before .before .before .loop in let s = state-of (a .self) (now (a .out)) in let u = c .before .before .before .unescaped .result in omega (arith, ink-room (now (a .raw)) s (a .self .len) (l .out) (l .p) (l .i) (l .inv .0) u (c .before .before .before .unescaped .ensures), l .inv .1, c .before .before .before .before .before .before .before .before .before .before .before .pre .0)
-
-loop-less-2 : tie.Need-loop-less-2 Inv-loop μ-loop
-loop-less-2 c = let a = c .before .before .before .before .before .before .before .before .before .before .before .before .args in let l = c .before .before .before .before .before .before .before .before .before .loop in let s = state-of (a .self) (now (a .out)) in let u = c .before .before .before .before .unescaped .result in omega (arith, some-size (now (a .raw)) s (a .self .len) (l .out) (l .p) (l .i) (l .inv .0) u (c .before .before .before .before .unescaped .ensures), c .before .before .before .before .unescaped .ensures .size, c .before .before .before .before .unescaped .ensures .bound)
-
-loop-again-2 : tie.Need-loop-again-2 Inv-loop μ-loop
-unfolding state-of
-loop-again-2 c = let a = c .before .before .before .before .before .before .before .before .before .before .before .before .args in let l = c .before .before .before .before .before .before .before .before .before .loop in let s = state-of (a .self) (now (a .out)) in let u = c .before .before .before .before .unescaped .result in (ink-pause (now (a .raw)) s (a .self .len) (l .out) (l .p) (l .i) (l .inv .0) u (c .before .before .before .before .unescaped .ensures) _ (sym (c .before .before .before .blank .ensures) ∙ c .before .before .if2 .taken) (c .pause .ensures .0 s) (c .pause .ensures .1), l .inv .1)
-
-write-requires : tie.Need-write-requires Inv-loop μ-loop
-write-requires c κs = let a = c .before .before .before .before .before .before .before .before .before .before .before .args in let l = c .before .before .before .before .before .before .before .before .loop in let s = state-of (a .self) (now (a .out)) in let u = c .before .before .before .unescaped .result in (omega (arith, ink-room (now (a .raw)) s (a .self .len) (l .out) (l .p) (l .i) (l .inv .0) u (c .before .before .before .unescaped .ensures), l .inv .1, c .before .before .before .before .before .before .before .before .before .before .before .pre .0), c .before .before .before .unescaped .ensures .scalar)
-
-loop-less-3 : tie.Need-loop-less-3 Inv-loop μ-loop
-loop-less-3 c = let a = c .before .before .before .before .before .before .before .before .before .before .before .before .before .before .args in let l = c .before .before .before .before .before .before .before .before .before .before .before .loop in let s = state-of (a .self) (now (a .out)) in let u = c .before .before .before .before .before .before .unescaped .result in omega (arith, some-size (now (a .raw)) s (a .self .len) (l .out) (l .p) (l .i) (l .inv .0) u (c .before .before .before .before .before .before .unescaped .ensures), c .before .before .before .before .before .before .unescaped .ensures .size, c .before .before .before .before .before .before .unescaped .ensures .bound)
-
-loop-again-3 : tie.Need-loop-again-3 Inv-loop μ-loop
-unfolding state-of
-loop-again-3 c = let a = c .before .before .before .before .before .before .before .before .before .before .before .before .before .before .args in let l = c .before .before .before .before .before .before .before .before .before .before .before .loop in let s = state-of (a .self) (now (a .out)) in let u = c .before .before .before .before .before .before .unescaped .result in (ink-write (now (a .raw)) s (a .self .len) (l .out) (l .p) (l .i) (l .inv .0) u (c .before .before .before .before .before .before .unescaped .ensures) _ _ (sym (c .before .before .before .before .before .blank .ensures) ∙ c .before .before .before .before .if2 .left) (c .before .before .write .ensures .0 s refl) (c .before .before .write .ensures .1), search needs)
-
-same-length : tie.Need-same-length Inv-loop μ-loop
+same-length : tie.Need-same-length
 same-length c = search needs
 
-returns : tie.Need-returns Inv-loop μ-loop
-unfolding pen-state state-of
-returns c = let a = c .before .before .before .before .args in let l = c .before .loop in ink-done (now (a .raw)) (state-of (a .self) (now (a .out))) (a .self .len) (l .out) (l .p) (l .i) (l .inv .0) (c .loop-test .left)
+returns : tie.Need-returns
+unfolding pen-state state-of text
+returns c =
+    let a = c .before .before .before .before .before .before .args in
+    c .before .before .ink .ensures (state-of (a .self) (now (a .out))) refl
 
 pub text-spec : {M : Type 1} → statement M
-text-spec =
-    tie.close
-    (tie.spec
-    Inv-loop
-    μ-loop
-    loop-holds
-    shared-slice-read-b
-    plain-requires
-    letter-requires
-    add-i
-    loop-less
-    loop-again
-    unescaped-requires
-    blank-requires
-    pause-requires
-    loop-less-2
-    loop-again-2
-    write-requires
-    loop-less-3
-    loop-again-3
-    same-length
-    returns)
+text-spec = tie.close (tie.spec ink-requires same-length returns)
