@@ -10,14 +10,14 @@ use mathlib.Core.List.{List, [], _∷_, _++_, reverse, reverse-reverse}
 use lib.Dec.{leb}
 use lib.ListN.{length, getD, take, drop, set, length-append, length-take, drop-of-length-le}
 use lib.Seq.{take-suc, drop-cons, take-all, sets}
-use borrow.Author.Tests.{lt-ltb, le-ltb, leb-true}
+use borrow.Author.Tests.{lt-ltb, le-ltb, leb-true, le-leb}
 use Rattle.text.specs.Words.{if_then_else_, _>>=_, case}
 use Rattle.text.specs.Utf8.{Scalars, utf8, encode, size, chars, is-utf8, decode}
 use Rattle.text.specs.Trim.{trim}
 use Rattle.text.specs.Cut.{cut}
 use Rattle.text.specs.Outcome.{Outcome, refused, wrote, number, returned, front}
 use Rattle.text.proofs.Tests.{on}
-use Rattle.text.proofs.Laws.{utf8-size, decode-true, decode-false, scalars-true, chars-encode}
+use Rattle.text.proofs.Laws.{utf8-size, decode-true, decode-false, scalars-true, chars-encode, encode-chars}
 use Rattle.text.proofs.CutLaws.{take-cut}
 use Rattle.text.proofs.Buffer.{Filled, filled-none, filled-more, filled-all, filled-length}
 use Rattle.html.specs.State.{State, new}
@@ -55,6 +55,18 @@ cut-most n (c ∷ cs) =
     on (λ (l : List ℕ). length (encode l) ≤ n) (leb (length (utf8 c)) n)
     (λ e. omega (arith, leb-true (length (utf8 c)) n e, length-append (utf8 c) (encode (cut (n - length (utf8 c)) cs))))
     (λ _. omega arith)
+
+cut-whole : (n : ℕ) (cs : List ℕ) → length (encode cs) ≤ n → cut n cs ≡ cs
+unfolding cut
+cut-whole n [] h = refl
+cut-whole n (c ∷ cs) h =
+    let l = length-append (utf8 c) (encode cs) in
+    rw (le-leb (length (utf8 c)) n (omega arith)) (ap (λ (x : List ℕ). c ∷ x) (cut-whole (n - length (utf8 c)) cs (omega arith)))
+
+pub cut-all : (page : List ℕ) (n : ℕ) → length page ≤ n → length page ≡ length (encode (cut n (chars page)))
+cut-all page n h =
+    let e = ap length (encode-chars page) in
+    sym (ap (λ (x : List ℕ). length (encode x)) (cut-whole n (chars page) (omega arith)) ∙ e)
 
 cut-scalars : (n : ℕ) (cs : List ℕ) → Scalars cs → Scalars (cut n cs)
 unfolding cut

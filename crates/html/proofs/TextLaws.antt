@@ -13,9 +13,9 @@ use lib.ListN.{length, getD, take, drop}
 use lib.Seq.{take-suc}
 use borrow.Author.Tests.{eq-eqb, ne-eqb, eqb-true}
 use Rattle.text.specs.Words.{if_then_else_, is, matches, str}
-use Rattle.text.specs.Chars.{is-space}
+use Rattle.text.specs.Chars.{within, is-space, is-alphanumeric}
 use Rattle.text.specs.Utf8.{IsScalar, Scalars, utf8, size, chars, code-at}
-use Rattle.text.proofs.Tests.{on, or-elim}
+use Rattle.text.proofs.Tests.{on, or-elim, and-false, within-true, within-above, within-below}
 use Rattle.text.proofs.Utf8.{utf8-1}
 use Rattle.text.proofs.Laws.{turn-is, utf8-size, advance-end, advance-ascii}
 use Rattle.reference.specs.Unescape.{reference, unescape}
@@ -135,8 +135,8 @@ put-weight first x c = go (escape first x (c .out) && not (c .pre))
     go false = omega arith
 
 -- ---- the turn of the loop over a text
-pub record Inking (raw : List ℕ) (s : State) (n : ℕ) (out : List ℕ) (p : Pen) (i : ℕ) : Type 0 where
-  pub same : put-all (p .first) (unescape 0 (chars (drop i raw))) (pen-state s p out) ≡ text (chars raw) s
+pub record Inking (raw : List ℕ) (s t : State) (n : ℕ) (out : List ℕ) (p : Pen) (i : ℕ) : Type 0 where
+  pub same : put-all (p .first) (unescape 0 (chars (drop i raw))) (pen-state s p out) ≡ t
   pub valid : Scalars (chars (drop i raw))
   pub bound : i ≤ length raw
   pub room : p .len + pending (p .space) + 2 * (length raw - i) ≤ n + 1 + 2 * length raw
@@ -149,7 +149,7 @@ pen-pre : (s : State) (p : Pen) (w : List ℕ) → pen-state s p w .pre ≡ s .p
 unfolding pen-state
 pen-pre s p w = refl
 
-module _ (raw : List ℕ) (s : State) (n : ℕ) (out : List ℕ) (p : Pen) (i : ℕ) (k : Inking raw s n out p i) (u : Piece) (v : Unescaped raw i u) where
+module _ (raw : List ℕ) (s t : State) (n : ℕ) (out : List ℕ) (p : Pen) (i : ℕ) (k : Inking raw s t n out p i) (u : Piece) (v : Unescaped raw i u) where
   pub some-size : 1 ≤ length (utf8 (u .code))
   some-size = utf8-size (u .code) .0
 
@@ -157,13 +157,13 @@ module _ (raw : List ℕ) (s : State) (n : ℕ) (out : List ℕ) (p : Pen) (i : 
   ink-room = omega (arith, k .room, some-size, v .size, v .bound)
 
   step : (f : Bool) (c : State) → next (p .first) (u .code) (pen-state s p out) ≡ (f, c)
-      → put-all f (unescape 0 (chars (drop (u .next) raw))) c ≡ text (chars raw) s
+      → put-all f (unescape 0 (chars (drop (u .next) raw))) c ≡ t
   unfolding put-all
   step f c e =
       sym (ap (λ (l : List ℕ). put-all (p .first) l (pen-state s p out)) (v .is) ∙ ap (λ (n : Bool × State). put-all (n .0) (unescape 0 (chars (drop (u .next) raw))) (n .1)) e)
       ∙ k .same
 
-  pub ink-pause : (r : Pen) → blank (s .pre) (u .code) ≡ true → pen-state s r out ≡ paused (pen-state s p out) → r .first ≡ p .first → Inking raw s n out r (u .next)
+  pub ink-pause : (r : Pen) → blank (s .pre) (u .code) ≡ true → pen-state s r out ≡ paused (pen-state s p out) → r .first ≡ p .first → Inking raw s t n out r (u .next)
   unfolding next blank paused pen-state
   ink-pause r b e f =
       let z : r .len ≡ p .len = sym (size-out (r .len) out) ∙ ap (λ (c : State). size (c .out)) e ∙ size-out (p .len) out in
@@ -175,7 +175,7 @@ module _ (raw : List ℕ) (s : State) (n : ℕ) (out : List ℕ) (p : Pen) (i : 
       }
 
   pub ink-write : (r : Pen) (out' : List ℕ) → blank (s .pre) (u .code) ≡ false → pen-state s r out' ≡ put (p .first) (u .code) (spaced (pen-state s p out)) → r .first ≡ false
-      → Inking raw s n out' r (u .next)
+      → Inking raw s t n out' r (u .next)
   unfolding next blank
   ink-write r out' b e f =
       let w = ap weight e in
@@ -190,9 +190,9 @@ module _ (raw : List ℕ) (s : State) (n : ℕ) (out : List ℕ) (p : Pen) (i : 
         room = omega (arith, k .room, some-size, v .size, v .bound);
       }
 
-pub ink-done : (raw : List ℕ) (s : State) (n : ℕ) (out : List ℕ) (p : Pen) (i : ℕ) → Inking raw s n out p i → length raw ≤ i → pen-state s p out ≡ text (chars raw) s
+pub ink-done : (raw : List ℕ) (s t : State) (n : ℕ) (out : List ℕ) (p : Pen) (i : ℕ) → Inking raw s t n out p i → length raw ≤ i → pen-state s p out ≡ t
 unfolding put-all
-ink-done raw s n out p i k h = sym (rw (advance-end raw i h, unescape-nil)) ∙ k .same
+ink-done raw s t n out p i k h = sym (rw (advance-end raw i h, unescape-nil)) ∙ k .same
 
 -- ---- the character at an offset
 pub scalars-drop : (n : ℕ) (cs : List ℕ) → Scalars cs → Scalars (drop n cs)
@@ -319,3 +319,89 @@ text-size raw c =
 pub text-lists : (raw : List ℕ) (c : State) → text raw c .lists ≡ c .lists
 unfolding text
 text-lists raw c = put-all-lists true (unescape 0 raw) c
+
+-- ---- letters and digits
+record Plain (b : ℕ) : Type 0 where
+  low : 48 ≤ b
+  high : b ≤ 122
+  not-62 : b ≡ 62 → ⊥
+  not-91 : b ≡ 91 → ⊥
+  not-92 : b ≡ 92 → ⊥
+  not-96 : b ≡ 96 → ⊥
+
+plain-in : (l h b : ℕ) → within l h b ≡ true → ((l ≤ b) → (b ≤ h) → Plain b) → Plain b
+plain-in l h b e f = let p = within-true l h b e in f (p .0) (p .1)
+
+plain-is : (b : ℕ) → is-alphanumeric b ≡ true → Plain b
+plain-is b =
+    or-elim (within 48 57 b) (within 65 90 b || within 97 122 b)
+    (λ e. plain-in 48 57 b e (λ l h. record { low = omega arith; high = omega arith; not-62 = λ q. omega arith; not-91 = λ q. omega arith; not-92 = λ q. omega arith; not-96 = λ q. omega arith }))
+    (or-elim (within 65 90 b) (within 97 122 b)
+    (λ e. plain-in 65 90 b e (λ l h. record { low = omega arith; high = omega arith; not-62 = λ q. omega arith; not-91 = λ q. omega arith; not-92 = λ q. omega arith; not-96 = λ q. omega arith }))
+    (λ e. plain-in 97 122 b e (λ l h. record { low = omega arith; high = omega arith; not-62 = λ q. omega arith; not-91 = λ q. omega arith; not-92 = λ q. omega arith; not-96 = λ q. omega arith })))
+
+module _ (b : ℕ) (h : is-alphanumeric b ≡ true) where
+  pub plain-ascii : b < 0x80
+  plain-ascii = let p = plain-is b h in omega (arith, p .high)
+
+  pub plain-not-and : b ≡ 38 → ⊥
+  plain-not-and q = let p = plain-is b h in omega (arith, p .low)
+
+  plain-not-space : is-space b ≡ false
+  unfolding is-space
+  plain-not-space =
+      let p = plain-is b h in
+      let l = p .low in
+      let u = p .high in
+      simp (
+        within-above 9 13 b (omega arith) (omega arith),
+        ne-eqb b 32 (omega arith),
+        ne-eqb b 133 (omega arith),
+        ne-eqb b 160 (omega arith),
+        ne-eqb b 5760 (omega arith),
+        within-below 8192 8202 b (omega arith),
+        ne-eqb b 8232 (omega arith),
+        ne-eqb b 8233 (omega arith),
+        ne-eqb b 8239 (omega arith),
+        ne-eqb b 8287 (omega arith),
+        ne-eqb b 12288 (omega arith),
+      )
+
+  pub plain-not-blank : (pre : Bool) → blank pre b ≡ false
+  unfolding blank
+  plain-not-blank pre = and-false (not pre) (is-space b) plain-not-space
+
+  plain-not-special : special b ≡ false
+  unfolding special
+  plain-not-special =
+      let p = plain-is b h in
+      let l = p .low in
+      let u = p .high in
+      simp (ne-eqb b 92 (p .not-92), ne-eqb b 42 (omega arith), ne-eqb b 96 (p .not-96), ne-eqb b 91 (p .not-91), ne-eqb b 33 (omega arith))
+
+  plain-not-opens : opens b ≡ false
+  unfolding opens
+  plain-not-opens =
+      let p = plain-is b h in
+      let l = p .low in
+      let u = p .high in
+      simp (ne-eqb b 35 (omega arith), ne-eqb b 45 (omega arith), ne-eqb b 43 (omega arith), ne-eqb b 62 (p .not-62), ne-eqb b 124 (omega arith))
+
+  pub plain-write : (first : Bool) (s : State) (o : List ℕ) (sp : Bool) → with-out (b ∷ with-space sp o) false s ≡ put first b (spaced (with-out o sp s))
+  plain-write first s o sp =
+      let p = plain-is b h in
+      let l = p .low in
+      let e : escape first b (with-space sp o) ≡ false = sym (escape-other first b (with-space sp o) plain-not-special plain-not-opens (λ q. omega arith)) in
+      write-plain first b s o sp (rw e)
+
+pub piece-ascii : (s : List ℕ) (i : ℕ) → i < length s → Scalars (chars (drop i s)) → getD s i 0 < 0x80 → (getD s i 0 ≡ 38 → ⊥) → Unescaped s i (piece (getD s i 0) (i + 1))
+piece-ascii s i l h a n =
+    let q = advance-ascii s i l a in
+    let v = subst Scalars q h in
+    record {
+      is = ap (unescape 0) q ∙ unescape-other (getD s i 0) (chars (drop (i + 1) s)) (ne-eqb (getD s i 0) 38 n);
+      scalar = v .0;
+      size = omega (arith, ap length (utf8-1 (getD s i 0) a));
+      bound = omega arith;
+      valid = v .1;
+    }

@@ -18,6 +18,7 @@ mod words;
 
 use finish::finish;
 use page::convert;
+use page::read_len;
 
 // What `html_to_markdown` answers: the Markdown's length, or why there is none.
 pub enum Answer {
@@ -118,7 +119,7 @@ pub fn html_to_markdown(page: &[u8], work: &mut [u8], result: &mut [u8]) -> Answ
     if !text::is_utf8(page) {
         return Answer::NotUtf8;
     }
-    let n = text::cut_len(page, Converter::MAX_HTML);
+    let n = read_len(page);
     if work.len() < 2 * n + 16_384 {
         return Answer::SmallWork;
     }

@@ -13,7 +13,8 @@ ghost use Prim.Native.Nat.{ℕ, _+_, _*_, _^_, _≤_, _<_};
 ghost use mathlib.Core.List.{List};
 ghost use mathlib.Core.Bool.{true};
 ghost use lib.ListN.{length, drop};
-ghost use Rattle.text.specs.Utf8.{Scalars, chars};
+ghost use Rattle.text.specs.Utf8.{Scalars, encode, chars};
+ghost use Rattle.text.specs.Cut.{cut};
 ghost use Rattle.html.specs.State.{new, with-skip};
 ghost use Rattle.html.specs.Page.{element, inside, words, turn, loop};
 ghost use Rattle.html.specs.Struct.{state-of, lists-of, number, skip-name, tagged, turned, left, closed};
@@ -148,6 +149,17 @@ impl Converter {
             state: s,
         }
     }
+}
+
+// How many bytes of a page are read: at most 1,048,576, fewer if a character would be split.
+pub(crate) fn read_len(page: &[u8]) -> usize
+    ensures { λ r. ⌜ r ≡ length (encode (cut 1048576 (chars (now (page .entry))))) ⌝ }
+{
+    let n = page.len();
+    if n <= Converter::MAX_HTML {
+        return n;
+    }
+    text::cut_len(page, Converter::MAX_HTML)
 }
 
 // Where a comment ends: after the first `-->` from i on, or at the end of the page.

@@ -13,7 +13,7 @@ ghost use mathlib.Core.Bool.{Bool, true, false};
 ghost use mathlib.Core.List.{List, _∷_, tail};
 ghost use lib.ListN.{length};
 ghost use Rattle.text.proofs.AsciiLaws.{Ascii};
-ghost use Rattle.html.specs.State.{block, newline, list-changed, item, tag, with-lists};
+ghost use Rattle.html.specs.State.{block, newline, list-changed, item, tag, with-lists, pre, br, li, tr, cell, code};
 ghost use Rattle.html.specs.Page.{listed};
 ghost use Rattle.html.specs.Struct.{state-of, lists-of, number, marks-of, step-means, tag-means, tagged, heading-of, ended, list-tag};
 
@@ -195,8 +195,70 @@ impl Converter {
         self
     }
 
+    pub(crate) fn pre_tag(mut self, out: &mut [u8], closing: bool) -> Self
+        requires { ⌜ self .len + 2 ≤ length (now out) ⌝ }
+        ensures { λ r. ⌜ state-of r (now (out .exit)) ≡ tag pre closing (state-of self (now (out .entry))) ⌝ }
+    {
+        self = self.block(out);
+        self.pre = !closing;
+        self
+    }
+
+    pub(crate) fn line_break(self, out: &mut [u8], closing: bool) -> Self
+        requires { ⌜ self .len + 1 ≤ length (now out) ⌝ }
+        ensures { λ r. ⌜ state-of r (now (out .exit)) ≡ tag br closing (state-of self (now (out .entry))) ⌝ }
+    {
+        if closing {
+            return self;
+        }
+        self.ended(out, b"\n")
+    }
+
+    pub(crate) fn list_item(mut self, out: &mut [u8], closing: bool) -> Self
+        requires { ⌜ self .depth ≤ 64 ⌝ }
+        requires { ⌜ self .len + 149 ≤ length (now out) ⌝ }
+        requires { ⌜ number (lists-of self) + 1 < 2 ^ 64 ⌝ }
+        ensures { λ r. ⌜ state-of r (now (out .exit)) ≡ tag li closing (state-of self (now (out .entry))) ⌝ }
+    {
+        if closing {
+            return self;
+        }
+        self = self.newline(out);
+        self.item(out)
+    }
+
+    pub(crate) fn row(self, out: &mut [u8], closing: bool) -> Self
+        requires { ⌜ self .len + 1 ≤ length (now out) ⌝ }
+        ensures { λ r. ⌜ state-of r (now (out .exit)) ≡ tag tr closing (state-of self (now (out .entry))) ⌝ }
+    {
+        if closing {
+            return self.newline(out);
+        }
+        self
+    }
+
+    pub(crate) fn cell(self, out: &mut [u8], closing: bool) -> Self
+        requires { ⌜ self .len + 3 ≤ length (now out) ⌝ }
+        ensures { λ r. ⌜ state-of r (now (out .exit)) ≡ tag cell closing (state-of self (now (out .entry))) ⌝ }
+    {
+        if closing {
+            return self.ended(out, b" | ");
+        }
+        self
+    }
+
+    pub(crate) fn code(self, out: &mut [u8], closing: bool) -> Self
+        requires { ⌜ self .len + 2 ≤ length (now out) ⌝ }
+        ensures { λ r. ⌜ state-of r (now (out .exit)) ≡ tag code closing (state-of self (now (out .entry))) ⌝ }
+    {
+        if self.pre {
+            return self;
+        }
+        self.marks(out, b"`", closing)
+    }
+
     // A tag that only writes.
-    pub(crate) fn step(mut self, out: &mut [u8], step: Step, closing: bool) -> Self
+    pub(crate) fn step(self, out: &mut [u8], step: Step, closing: bool) -> Self
         requires { ⌜ self .depth ≤ 64 ⌝ }
         requires { ⌜ self .len + 149 ≤ length (now out) ⌝ }
         requires { ⌜ number (lists-of self) + 1 < 2 ^ 64 ⌝ }
@@ -205,44 +267,14 @@ impl Converter {
         match step {
             Step::Heading(level) => self.heading(out, level, closing),
             Step::Block => self.block(out),
-            Step::Pre => {
-                self = self.block(out);
-                self.pre = !closing;
-                self
-            }
-            Step::Break => {
-                if closing {
-                    return self;
-                }
-                self.ended(out, b"\n")
-            }
-            Step::Item => {
-                if closing {
-                    return self;
-                }
-                self = self.newline(out);
-                self.item(out)
-            }
-            Step::Row => {
-                if closing {
-                    return self.newline(out);
-                }
-                self
-            }
-            Step::Cell => {
-                if closing {
-                    return self.ended(out, b" | ");
-                }
-                self
-            }
+            Step::Pre => self.pre_tag(out, closing),
+            Step::Break => self.line_break(out, closing),
+            Step::Item => self.list_item(out, closing),
+            Step::Row => self.row(out, closing),
+            Step::Cell => self.cell(out, closing),
             Step::Strong => self.marks(out, b"**", closing),
             Step::Emphasis => self.marks(out, b"*", closing),
-            Step::Code => {
-                if self.pre {
-                    return self;
-                }
-                self.marks(out, b"`", closing)
-            }
+            Step::Code => self.code(out, closing),
             Step::Other => self,
         }
     }

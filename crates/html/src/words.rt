@@ -7,10 +7,12 @@ use crate::output::spaced;
 use reference::Ampersand;
 ghost use mathlib.Core.Path.{_≡_};
 ghost use Prim.Native.Nat.{_+_, _*_, _≤_, _<_};
-ghost use mathlib.Core.Bool.{false};
+ghost use mathlib.Core.Bool.{true, false};
+ghost use Rattle.text.specs.Chars.{is-alphanumeric};
 ghost use lib.ListN.{length, drop};
 ghost use Rattle.text.specs.Utf8.{IsScalar, Scalars, utf8, chars};
-ghost use Rattle.html.specs.State.{State, special, escape, text};
+ghost use Rattle.html.specs.State.{State, special, escape, put-all, text};
+ghost use Rattle.reference.specs.Unescape.{unescape};
 ghost use Rattle.html.specs.State as state;
 ghost use Rattle.html.specs.Struct.{state-of, out-of};
 ghost use Rattle.html.specs.Pen.{pen-state, paused, opens, blank, Unescaped};
@@ -46,12 +48,25 @@ fn unescaped(raw: &[u8], i: usize) -> Piece
             next: i + 1 + n,
         };
     }
+    if b < 0x80 {
+        return Piece {
+            code: b as u32,
+            next: i + 1,
+        };
+    }
     let c = text::code_at(raw, i);
     let n = text::width(c);
     Piece {
         code: c,
         next: i + n,
     }
+}
+
+// An ASCII letter or digit, which is neither a space nor escaped anywhere.
+fn plain(b: u8) -> bool
+    ensures { λ r. ⌜ r ≡ is-alphanumeric b ⌝ }
+{
+    ((b'0' <= b) & (b <= b'9')) | (((b'A' <= b) & (b <= b'Z')) | ((b'a' <= b) & (b <= b'z')))
 }
 
 // A space outside `pre`.
@@ -127,6 +142,20 @@ impl Pen {
         }
     }
 
+    // A letter or digit that is written.
+    fn letter(self, out: &mut [u8], b: u8) -> Pen
+        requires { ⌜ (self .len + 2 ≤ length (now out)) × (is-alphanumeric b ≡ true) ⌝ }
+        ensures { λ r. ⌜ ((s : State) → pen-state s r (now (out .exit)) ≡ state.put (self .first) b (state.spaced (pen-state s self (now (out .entry))))) × (r .first ≡ false) ⌝ }
+    {
+        let n = spaced(out, self.len, self.space);
+        let m = put_char(out, n, b as u32);
+        Pen {
+            len: m,
+            space: false,
+            first: false,
+        }
+    }
+
     // A space: pending, unless nothing is on the line yet.
     fn pause(self, out: &[u8]) -> Pen
         requires { ⌜ self .len ≤ length (now out) ⌝ }
@@ -141,28 +170,43 @@ impl Pen {
     }
 }
 
+// The characters of a text, one after the other.
+fn ink(pen: Pen, out: &mut [u8], raw: &[u8], pre: bool) -> Pen
+    requires { ⌜ (pen .len + 2 + 2 * length (now raw) ≤ length (now out)) × Scalars (chars (now raw)) ⌝ }
+    ensures { λ r. ⌜ ((s : State) → s .pre ≡ pre → pen-state s r (now (out .exit)) ≡ put-all (pen .first) (unescape 0 (chars (now (raw .entry)))) (pen-state s pen (now (out .entry)))) ⌝ }
+{
+    let mut p = pen;
+    let mut i = 0;
+    while i < raw.len() {
+        let b = raw[i];
+        if plain(b) {
+            p = p.letter(out, b);
+            i += 1;
+            continue;
+        }
+        let u = unescaped(raw, i);
+        if blank(u.code, pre) {
+            p = p.pause(out);
+            i = u.next;
+            continue;
+        }
+        p = p.write(out, u.code, pre);
+        i = u.next;
+    }
+    p
+}
+
 impl Converter {
     pub(crate) fn text(mut self, out: &mut [u8], raw: &[u8]) -> Self
         requires { ⌜ (self .len + 2 + 2 * length (now raw) ≤ length (now out)) × Scalars (chars (now raw)) ⌝ }
         ensures { λ r. ⌜ state-of r (now (out .exit)) ≡ text (chars (now (raw .entry))) (state-of self (now (out .entry))) ⌝ }
     {
-        let pre = self.pre;
-        let mut p = Pen {
+        let pen = Pen {
             len: self.len,
             space: self.space,
             first: true,
         };
-        let mut i = 0;
-        while i < raw.len() {
-            let u = unescaped(raw, i);
-            if blank(u.code, pre) {
-                p = p.pause(out);
-                i = u.next;
-                continue;
-            }
-            p = p.write(out, u.code, pre);
-            i = u.next;
-        }
+        let p = ink(pen, out, raw, self.pre);
         self.len = p.len;
         self.space = p.space;
         self

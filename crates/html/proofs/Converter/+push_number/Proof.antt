@@ -53,7 +53,8 @@ push-number-push-requires : (t : ℕ) → push-number-lts.Need-push-requires (
   push-number-below t,
   push-number.Post,
 ) (push-number-at t) push-number.Post
-push-number-push-requires t c κs = (omega (arith, ap length (decimal-small (c .before .before .before .args .n) (c .before .if1 .taken))), omega arith)
+push-number-push-requires t c κs =
+    (omega (arith, ap length (decimal-small (c .before .before .before .args .n) (c .before .if1 .taken))), omega arith)
 
 push-number-same-length : (t : ℕ) → push-number-lts.Need-same-length (
   push-reads.Asked,
@@ -69,7 +70,9 @@ push-number-returns : (t : ℕ) → push-number-lts.Need-returns (
   push-number-below t,
   push-number.Post,
 ) (push-number-at t) push-number.Post
-push-number-returns t c = c .before .before .push .ensures ∙ number-small (c .before .before .before .before .before .before .args .n) _ (c .before .before .before .before .if1 .taken)
+push-number-returns t c =
+    c .before .before .push .ensures
+    ∙ number-small (c .before .before .before .before .before .before .args .n) _ (c .before .before .before .before .if1 .taken)
 
 push-number-push-number-requires : (t : ℕ) → push-number-lts.Need-push-number-requires (
   push-reads.Asked,
@@ -77,7 +80,11 @@ push-number-push-number-requires : (t : ℕ) → push-number-lts.Need-push-numbe
   push-number-below t,
   push-number.Post,
 ) (push-number-at t) push-number.Post
-push-number-push-number-requires t c κs = let n = c .before .before .before .args .n in let h = c .before .if1 .left in let l = decimal-large n h in (omega arith, omega (arith, ap length l, length-append (decimal (n / 10)) ((48 + n % 10) ∷ [])))
+push-number-push-number-requires t c κs =
+    let n = c .before .before .before .args .n in
+    let h = c .before .if1 .left in
+    let l = decimal-large n h in
+    (omega arith, omega (arith, ap length l, length-append (decimal (n / 10)) ((48 + n % 10) ∷ [])))
 
 push-number-cast-push-2 : (t : ℕ) → push-number-lts.Need-cast-push-2 (
   push-reads.Asked,
@@ -101,7 +108,11 @@ push-number-push-requires-2 : (t : ℕ) → push-number-lts.Need-push-requires-2
   push-number-below t,
   push-number.Post,
 ) (push-number-at t) push-number.Post
-push-number-push-requires-2 t c κs = let n = c .before .before .before .before .before .before .before .args .n in let h = c .before .before .before .before .before .if1 .left in let l = decimal-large n h in (omega (arith, ap length l, length-append (decimal (n / 10)) ((48 + n % 10) ∷ []), grown (push-str (decimal (n / 10))) (length (decimal (n / 10))) (grow-str (decimal (n / 10)) (decimal-ascii (n / 10))) _ _ _ _ (c .before .before .before .push-number .ensures)), omega arith)
+push-number-push-requires-2 t c κs =
+    let n = c .before .before .before .before .before .before .before .args .n in
+    let h = c .before .before .before .before .before .if1 .left in
+    let l = decimal-large n h in
+    (omega (arith, ap length l, length-append (decimal (n / 10)) ((48 + n % 10) ∷ []), grown (push-str (decimal (n / 10))) (length (decimal (n / 10))) (grow-str (decimal (n / 10)) (decimal-ascii (n / 10))) _ _ _ _ (c .before .before .before .push-number .ensures)), omega arith)
 
 push-number-same-length-2 : (t : ℕ) → push-number-lts.Need-same-length-2 (
   push-reads.Asked,
@@ -117,7 +128,11 @@ push-number-returns-2 : (t : ℕ) → push-number-lts.Need-returns-2 (
   push-number-below t,
   push-number.Post,
 ) (push-number-at t) push-number.Post
-push-number-returns-2 t c = let n = c .before .before .before .before .before .before .before .before .before .before .args .n in c .before .before .push2 .ensures ∙ ap (push-str ((48 + n % 10) ∷ [])) (c .before .before .before .before .before .before .push-number .ensures) ∙ number-large n _ (c .before .before .before .before .before .before .before .before .if1 .left)
+push-number-returns-2 t c =
+    let n = c .before .before .before .before .before .before .before .before .before .before .args .n in
+    c .before .before .push2 .ensures
+    ∙ ap (push-str ((48 + n % 10) ∷ [])) (c .before .before .before .before .before .before .push-number .ensures)
+    ∙ number-large n _ (c .before .before .before .before .before .before .before .before .if1 .left)
 
 pub +push-number-spec : {M : Type 1} → statement M
 +push-number-spec = close μ-push-number λ t. push-number-lts.spec (

@@ -19,21 +19,30 @@ newline-requires : tie.Need-newline-requires
 newline-requires c κs = search needs
 
 block-requires : tie.Need-block-requires
-block-requires c κs = let t = grown newline 1 grow-newline _ _ _ _ (c .before .before .before .before .newline .ensures) in omega arith
+block-requires c κs =
+    let t = grown newline 1 grow-newline _ _ _ _ (c .before .before .before .before .newline .ensures) in
+    omega arith
 
 same-length : tie.Need-same-length
 same-length c = search needs
 
 returns : tie.Need-returns
 unfolding state-of
-returns c = let a = c .before .before .before .before .before .before .before .before .before .before .args in c .before .before .block .ensures ∙ ap block (c .before .before .before .before .before .before .before .newline .ensures) ∙ changed-none (lists-of (a .self)) (state-of (a .self) (now (a .out))) (none-of (a .self) (c .before .before .before .before .if1 .taken))
+returns c =
+    let a = c .before .before .before .before .before .before .before .before .before .before .args in
+    c .before .before .block .ensures
+    ∙ ap block (c .before .before .before .before .before .before .before .newline .ensures)
+    ∙ changed-none (lists-of (a .self)) (state-of (a .self) (now (a .out))) (none-of (a .self) (c .before .before .before .before .if1 .taken))
 
 same-length-2 : tie.Need-same-length-2
 same-length-2 c = search needs
 
 returns-2 : tie.Need-returns-2
 unfolding state-of
-returns-2 c = let a = c .before .before .before .before .before .before .args in c .before .before .before .newline .ensures ∙ changed-some (lists-of (a .self)) (state-of (a .self) (now (a .out))) (some-of (a .self) (c .if1 .left))
+returns-2 c =
+    let a = c .before .before .before .before .before .before .args in
+    c .before .before .before .newline .ensures
+    ∙ changed-some (lists-of (a .self)) (state-of (a .self) (now (a .out))) (some-of (a .self) (c .if1 .left))
 
 pub changed-spec : {M : Type 1} → statement M
 changed-spec =

@@ -25,7 +25,11 @@ element-write-self c = search needs
 
 returns : tie.Need-returns
 unfolding state-of
-returns c = let a = c .args .t1 in let k : a .depth - 1 < 64 = omega arith in let h : a .depth - 1 < length (a .lists) = search needs in λ w. ap (λ (l : List ℕ). with-lists l (state-of a w)) (upto-top (a .depth) (a .lists) _ (omega arith) (omega arith))
+returns c =
+    let a = c .args .t1 in
+    let k : a .depth - 1 < 64 = omega arith in
+    let h : a .depth - 1 < length (a .lists) = search needs in
+    λ w. ap (λ (l : List ℕ). with-lists l (state-of a w)) (upto-top (a .depth) (a .lists) _ (omega arith) (omega arith))
 
 pub counted-spec : {M : Type 1} → statement M
 counted-spec = tie.close (tie.spec sub-self mul-self element-write-self returns)

@@ -37,7 +37,13 @@ same-length c = search needs
 
 returns : tie.Need-returns
 unfolding state-of
-returns c = let a = c .before .before .before .before .before .before .before .before .before .before .before .args in let n = name-of (now (a .name)) in let s = state-of (a .self) (now (a .out)) in let k = a .self .skip in c .before .before .tag .ensures ∙ element-closes n s k refl (sym (c .before .before .before .before .before .before .skip-no .ensures) ∙ c .before .before .before .before .before .if1 .taken) (a .closing) (c .before .before .before .before .before .before .before .before .tag-of .result) (c .before .before .before .before .before .before .before .before .tag-of .ensures) (c .before .before .before .before .if2 .taken)
+returns c =
+    let a = c .before .before .before .before .before .before .before .before .before .before .before .args in
+    let n = name-of (now (a .name)) in
+    let s = state-of (a .self) (now (a .out)) in
+    let k = a .self .skip in
+    c .before .before .tag .ensures
+    ∙ element-closes n s k refl (sym (c .before .before .before .before .before .before .skip-no .ensures) ∙ c .before .before .before .before .before .if1 .taken) (a .closing) (c .before .before .before .before .before .before .before .before .tag-of .result) (c .before .before .before .before .before .before .before .before .tag-of .ensures) (c .before .before .before .before .if2 .taken)
 
 skip-no-requires-2 : tie.Need-skip-no-requires-2
 skip-no-requires-2 c κs = search needs
@@ -50,18 +56,35 @@ same-length-2 c = search needs
 
 returns-2 : tie.Need-returns-2
 unfolding state-of
-returns-2 c = let a = c .before .before .before .before .before .before .before .before .before .before .before .before .before .args in let n = name-of (now (a .name)) in let s = state-of (a .self) (now (a .out)) in let k = a .self .skip in c .before .before .tag2 .ensures ∙ element-tag n s k refl (sym (c .before .before .before .before .before .before .before .before .skip-no .ensures) ∙ c .before .before .before .before .before .before .before .if1 .taken) (a .closing) (c .before .before .before .before .before .before .before .before .before .before .tag-of .result) (c .before .before .before .before .before .before .before .before .before .before .tag-of .ensures) (c .before .before .before .before .before .before .if2 .left) (ap skip-no (sym (c .before .before .before .before .before .before .before .before .before .tag-skip .ensures)) ∙ sym (c .before .before .before .before .before .skip-no2 .ensures) ∙ c .before .before .before .before .if3 .taken)
+returns-2 c =
+    let a = c .before .before .before .before .before .before .before .before .before .before .before .before .before .args in
+    let n = name-of (now (a .name)) in
+    let s = state-of (a .self) (now (a .out)) in
+    let k = a .self .skip in
+    c .before .before .tag2 .ensures
+    ∙ element-tag n s k refl (sym (c .before .before .before .before .before .before .before .before .skip-no .ensures) ∙ c .before .before .before .before .before .before .before .if1 .taken) (a .closing) (c .before .before .before .before .before .before .before .before .before .before .tag-of .result) (c .before .before .before .before .before .before .before .before .before .before .tag-of .ensures) (c .before .before .before .before .before .before .if2 .left) (ap skip-no (sym (c .before .before .before .before .before .before .before .before .before .tag-skip .ensures)) ∙ sym (c .before .before .before .before .before .skip-no2 .ensures) ∙ c .before .before .before .before .if3 .taken)
 
 skipping-requires : tie.Need-skipping-requires
 skipping-requires c κs = search needs
 
 returns-3 : tie.Need-returns-3
 unfolding state-of tagged
-returns-3 c = let a = c .before .before .before .before .before .before .before .before .before .before .args in let n = name-of (now (a .name)) in let s = state-of (a .self) (now (a .out)) in let k = a .self .skip in ap some (c .skipping .ensures (now (a .out)) ∙ ap (λ (x : Skip). with-skip (skip-name x) s) (c .before .before .before .before .before .before .tag-skip .ensures)) ∙ element-skips n s k refl (sym (c .before .before .before .before .before .skip-no .ensures) ∙ c .before .before .before .before .if1 .taken) (a .closing) (c .before .before .before .before .before .before .before .tag-of .result) (c .before .before .before .before .before .before .before .tag-of .ensures) (c .before .before .before .if2 .left) (λ e. c .before .if3 .left (c .before .before .skip-no2 .ensures ∙ ap skip-no (c .before .before .before .before .before .before .tag-skip .ensures) ∙ e))
+returns-3 c =
+    let a = c .before .before .before .before .before .before .before .before .before .before .args in
+    let n = name-of (now (a .name)) in
+    let s = state-of (a .self) (now (a .out)) in
+    let k = a .self .skip in
+    ap some (c .skipping .ensures (now (a .out)) ∙ ap (λ (x : Skip). with-skip (skip-name x) s) (c .before .before .before .before .before .before .tag-skip .ensures))
+    ∙ element-skips n s k refl (sym (c .before .before .before .before .before .skip-no .ensures) ∙ c .before .before .before .before .if1 .taken) (a .closing) (c .before .before .before .before .before .before .before .tag-of .result) (c .before .before .before .before .before .before .before .tag-of .ensures) (c .before .before .before .if2 .left) (λ e. c .before .if3 .left (c .before .before .skip-no2 .ensures ∙ ap skip-no (c .before .before .before .before .before .before .tag-skip .ensures) ∙ e))
 
 returns-4 : tie.Need-returns-4
 unfolding state-of tagged
-returns-4 c = let a = c .before .before .before .before .before .before .before .args in let n = name-of (now (a .name)) in let s = state-of (a .self) (now (a .out)) in let k = a .self .skip in element-stays n s k refl (λ e. c .before .if1 .left (c .before .before .skip-no .ensures ∙ e)) (a .closing) (not-true (a .closing) (c .if4 .taken))
+returns-4 c =
+    let a = c .before .before .before .before .before .before .before .args in
+    let n = name-of (now (a .name)) in
+    let s = state-of (a .self) (now (a .out)) in
+    let k = a .self .skip in
+    element-stays n s k refl (λ e. c .before .if1 .left (c .before .before .skip-no .ensures ∙ e)) (a .closing) (not-true (a .closing) (c .if4 .taken))
 
 skip-no-requires-3 : tie.Need-skip-no-requires-3
 skip-no-requires-3 c κs = search needs
@@ -71,14 +94,25 @@ skip-no-requires-4 c κs = search needs
 
 returns-5 : tie.Need-returns-5
 unfolding state-of tagged
-returns-5 c = let a = c .before .before .before .before .before .before .before .before .before .before .args in let n = name-of (now (a .name)) in let s = state-of (a .self) (now (a .out)) in let k = a .self .skip in element-other n s k refl (λ e. c .before .before .before .before .if1 .left (c .before .before .before .before .before .skip-no .ensures ∙ e)) (c .before .before .before .before .before .before .before .tag-of .result) (c .before .before .before .before .before .before .before .tag-of .ensures) (a .closing) (not-false (a .closing) (c .before .before .before .if4 .left)) (λ e. c .if5 .taken (c .before .before .skip-no3 .ensures ∙ e ∙ ap skip-no (sym (c .before .before .before .before .before .before .tag-skip .ensures)) ∙ sym (c .before .skip-no4 .ensures)))
+returns-5 c =
+    let a = c .before .before .before .before .before .before .before .before .before .before .args in
+    let n = name-of (now (a .name)) in
+    let s = state-of (a .self) (now (a .out)) in
+    let k = a .self .skip in
+    element-other n s k refl (λ e. c .before .before .before .before .if1 .left (c .before .before .before .before .before .skip-no .ensures ∙ e)) (c .before .before .before .before .before .before .before .tag-of .result) (c .before .before .before .before .before .before .before .tag-of .ensures) (a .closing) (not-false (a .closing) (c .before .before .before .if4 .left)) (λ e. c .if5 .taken (c .before .before .skip-no3 .ensures ∙ e ∙ ap skip-no (sym (c .before .before .before .before .before .before .tag-skip .ensures)) ∙ sym (c .before .skip-no4 .ensures)))
 
 skipping-requires-2 : tie.Need-skipping-requires-2
 skipping-requires-2 c κs = search needs
 
 returns-6 : tie.Need-returns-6
 unfolding state-of tagged
-returns-6 c = let a = c .before .before .before .before .before .before .before .before .before .before .before .args in let n = name-of (now (a .name)) in let s = state-of (a .self) (now (a .out)) in let k = a .self .skip in ap some (c .skipping2 .ensures (now (a .out))) ∙ element-ends n s k refl (λ e. c .before .before .before .before .before .if1 .left (c .before .before .before .before .before .before .skip-no .ensures ∙ e)) (c .before .before .before .before .before .before .before .before .tag-of .result) (c .before .before .before .before .before .before .before .before .tag-of .ensures) (a .closing) (not-false (a .closing) (c .before .before .before .before .if4 .left)) (sym (c .before .before .before .skip-no3 .ensures) ∙ c .before .if5 .left ∙ c .before .before .skip-no4 .ensures ∙ ap skip-no (c .before .before .before .before .before .before .before .tag-skip .ensures))
+returns-6 c =
+    let a = c .before .before .before .before .before .before .before .before .before .before .before .args in
+    let n = name-of (now (a .name)) in
+    let s = state-of (a .self) (now (a .out)) in
+    let k = a .self .skip in
+    ap some (c .skipping2 .ensures (now (a .out)))
+    ∙ element-ends n s k refl (λ e. c .before .before .before .before .before .if1 .left (c .before .before .before .before .before .before .skip-no .ensures ∙ e)) (c .before .before .before .before .before .before .before .before .tag-of .result) (c .before .before .before .before .before .before .before .before .tag-of .ensures) (a .closing) (not-false (a .closing) (c .before .before .before .before .if4 .left)) (sym (c .before .before .before .skip-no3 .ensures) ∙ c .before .if5 .left ∙ c .before .before .skip-no4 .ensures ∙ ap skip-no (c .before .before .before .before .before .before .before .tag-skip .ensures))
 
 pub element-spec : {M : Type 1} → statement M
 element-spec =

@@ -18,7 +18,9 @@ same-length : tie.Need-same-length
 same-length c = search needs
 
 returns : tie.Need-returns
-returns c = c .before .before .element .ensures ∙ inside-none (now (c .before .before .before .before .before .before .before .args .inner)) _ (c .before .before .before .before .if1 .taken)
+returns c =
+    c .before .before .element .ensures
+    ∙ inside-none (now (c .before .before .before .before .before .before .before .args .inner)) _ (c .before .before .before .before .if1 .taken)
 
 shared-slice-read-if2 : tie.Need-shared-slice-read-if2
 shared-slice-read-if2 c = search needs
@@ -39,7 +41,9 @@ same-length-2 : tie.Need-same-length-2
 same-length-2 c = search needs
 
 returns-2 : tie.Need-returns-2
-returns-2 c = c .before .before .element2 .ensures ∙ inside-close (now (c .before .before .before .before .before .before .before .before .before .before .args .inner)) _ (omega arith) (c .before .before .before .before .before .if2 .taken)
+returns-2 c =
+    c .before .before .element2 .ensures
+    ∙ inside-close (now (c .before .before .before .before .before .before .before .before .before .before .args .inner)) _ (omega arith) (c .before .before .before .before .before .if2 .taken)
 
 element-requires-3 : tie.Need-element-requires-3
 element-requires-3 c κs = search needs
@@ -48,7 +52,9 @@ same-length-3 : tie.Need-same-length-3
 same-length-3 c = search needs
 
 returns-3 : tie.Need-returns-3
-returns-3 c = c .before .before .element3 .ensures ∙ inside-open (now (c .before .before .before .before .before .before .before .before .before .args .inner)) _ (omega arith) (c .before .before .before .before .if2 .left)
+returns-3 c =
+    c .before .before .element3 .ensures
+    ∙ inside-open (now (c .before .before .before .before .before .before .before .before .before .args .inner)) _ (omega arith) (c .before .before .before .before .if2 .left)
 
 pub inside-spec : {M : Type 1} → statement M
 inside-spec =

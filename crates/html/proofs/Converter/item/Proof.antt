@@ -32,7 +32,10 @@ same-length : tie.Need-same-length
 same-length c = search needs
 
 returns : tie.Need-returns
-returns c = let a = c .before .before .before .before .before .before .before .args in c .before .before .push-all .ensures ∙ item-none (lists-of (a .self)) _ (ap (λ (n : ℕ). upto n (a .self .lists)) (c .before .before .before .before .before .if1 .taken))
+returns c =
+    let a = c .before .before .before .before .before .before .before .args in
+    c .before .before .push-all .ensures
+    ∙ item-none (lists-of (a .self)) _ (ap (λ (n : ℕ). upto n (a .self .lists)) (c .before .before .before .before .before .if1 .taken))
 
 number-requires : tie.Need-number-requires
 number-requires c κs = search needs
@@ -50,34 +53,52 @@ slice-aggregate-push-all-2 : tie.Need-slice-aggregate-push-all-2
 slice-aggregate-push-all-2 c = search needs
 
 push-all-requires-2 : tie.Need-push-all-requires-2
-push-all-requires-2 c κs = let t = grown (push-str (replicate (2 * (c .before .before .before .before .before .before .before .before .before .before .args .self .depth - 1)) 32)) (2 * (c .before .before .before .before .before .before .before .before .before .before .args .self .depth - 1)) (grow-times (2 * (c .before .before .before .before .before .before .before .before .before .before .args .self .depth - 1)) 32 (omega arith)) _ _ _ _ (c .before .before .before .before .before .push-times .ensures) in (omega arith, search needs)
+push-all-requires-2 c κs =
+    let t = grown (push-str (replicate (2 * (c .before .before .before .before .before .before .before .before .before .before .args .self .depth - 1)) 32)) (2 * (c .before .before .before .before .before .before .before .before .before .before .args .self .depth - 1)) (grow-times (2 * (c .before .before .before .before .before .before .before .before .before .before .args .self .depth - 1)) 32 (omega arith)) _ _ _ _ (c .before .before .before .before .before .push-times .ensures) in
+    (omega arith, search needs)
 
 same-length-2 : tie.Need-same-length-2
 same-length-2 c = search needs
 
 returns-2 : tie.Need-returns-2
-returns-2 c = let a = c .before .before .before .before .before .before .before .before .before .before .before .before .before .args .self in item-bullets a (c .before .before .before .before .before .before .before .before .push-times .result) _ _ (c .before .before .before .before .before .before .before .before .before .before .number .result) (omega arith) (c .before .before .before .before .before .before .before .before .before .before .number .ensures) (c .before .before .before .before .before .before .before .before .push-times .ensures) _ _ (c .before .before .before .before .before .if2 .taken) (c .before .before .push-all2 .ensures)
+returns-2 c =
+    let a = c .before .before .before .before .before .before .before .before .before .before .before .before .before .args .self in
+    item-bullets a (c .before .before .before .before .before .before .before .before .push-times .result) _ _ (c .before .before .before .before .before .before .before .before .before .before .number .result) (omega arith) (c .before .before .before .before .before .before .before .before .before .before .number .ensures) (c .before .before .before .before .before .before .before .before .push-times .ensures) _ _ (c .before .before .before .before .before .if2 .taken) (c .before .before .push-all2 .ensures)
 
 push-number-requires : tie.Need-push-number-requires
-push-number-requires c κs = let t = grown (push-str (replicate (2 * (c .before .before .before .before .before .before .before .before .before .args .self .depth - 1)) 32)) (2 * (c .before .before .before .before .before .before .before .before .before .args .self .depth - 1)) (grow-times (2 * (c .before .before .before .before .before .before .before .before .before .args .self .depth - 1)) 32 (omega arith)) _ _ _ _ (c .before .before .before .before .push-times .ensures) in let n = c .before .before .before .before .before .before .number .result in let q : n < 2 ^ 64 = omega (arith, c .before .before .before .before .before .before .number .ensures) in omega (arith, decimal-few n q)
+push-number-requires c κs =
+    let t = grown (push-str (replicate (2 * (c .before .before .before .before .before .before .before .before .before .args .self .depth - 1)) 32)) (2 * (c .before .before .before .before .before .before .before .before .before .args .self .depth - 1)) (grow-times (2 * (c .before .before .before .before .before .before .before .before .before .args .self .depth - 1)) 32 (omega arith)) _ _ _ _ (c .before .before .before .before .push-times .ensures) in
+    let n = c .before .before .before .before .before .before .number .result in
+    let q : n < 2 ^ 64 = omega (arith, c .before .before .before .before .before .before .number .ensures) in
+    omega (arith, decimal-few n q)
 
 slice-aggregate-push-all-3 : tie.Need-slice-aggregate-push-all-3
 slice-aggregate-push-all-3 c = search needs
 
 push-all-requires-3 : tie.Need-push-all-requires-3
-push-all-requires-3 c κs = let t = grown (push-str (replicate (2 * (c .before .before .before .before .before .before .before .before .before .before .before .before .before .before .args .self .depth - 1)) 32)) (2 * (c .before .before .before .before .before .before .before .before .before .before .before .before .before .before .args .self .depth - 1)) (grow-times (2 * (c .before .before .before .before .before .before .before .before .before .before .before .before .before .before .args .self .depth - 1)) 32 (omega arith)) _ _ _ _ (c .before .before .before .before .before .before .before .before .before .push-times .ensures) in let n = c .before .before .before .before .before .before .before .before .before .before .before .number .result in let q : n < 2 ^ 64 = omega (arith, c .before .before .before .before .before .before .before .before .before .before .before .number .ensures) in let d = grown (push-str (decimal n)) (length (decimal n)) (grow-str (decimal n) (decimal-ascii n)) _ _ _ _ (c .before .before .before .before .push-number .ensures) in (omega (arith, decimal-few n q), search needs)
+push-all-requires-3 c κs =
+    let t = grown (push-str (replicate (2 * (c .before .before .before .before .before .before .before .before .before .before .before .before .before .before .args .self .depth - 1)) 32)) (2 * (c .before .before .before .before .before .before .before .before .before .before .before .before .before .before .args .self .depth - 1)) (grow-times (2 * (c .before .before .before .before .before .before .before .before .before .before .before .before .before .before .args .self .depth - 1)) 32 (omega arith)) _ _ _ _ (c .before .before .before .before .before .before .before .before .before .push-times .ensures) in
+    let n = c .before .before .before .before .before .before .before .before .before .before .before .number .result in
+    let q : n < 2 ^ 64 = omega (arith, c .before .before .before .before .before .before .before .before .before .before .before .number .ensures) in
+    let d = grown (push-str (decimal n)) (length (decimal n)) (grow-str (decimal n) (decimal-ascii n)) _ _ _ _ (c .before .before .before .before .push-number .ensures) in
+    (omega (arith, decimal-few n q), search needs)
 
 add-counted : tie.Need-add-counted
 add-counted c = search needs
 
 counted-requires : tie.Need-counted-requires
-counted-requires c κs = let a = c .before .before .before .before .before .before .before .before .before .before .before .before .before .before .before .before .before .args .self in let h = item-depth a (c .before .before .before .before .before .before .before .before .before .before .before .before .push-times .result) _ _ (c .before .before .before .before .before .before .before .before .before .before .before .before .before .before .number .result) (omega arith) (c .before .before .before .before .before .before .before .before .before .before .before .before .before .before .number .ensures) (c .before .before .before .before .before .before .before .before .before .before .before .before .push-times .ensures) (c .before .before .before .before .before .before .before .push-number .result) (c .before .before .push-all3 .result) _ _ (c .before .before .before .before .before .before .before .push-number .ensures) (c .before .before .push-all3 .ensures) in (omega (arith, h), omega (arith, h))
+counted-requires c κs =
+    let a = c .before .before .before .before .before .before .before .before .before .before .before .before .before .before .before .before .before .args .self in
+    let h = item-depth a (c .before .before .before .before .before .before .before .before .before .before .before .before .push-times .result) _ _ (c .before .before .before .before .before .before .before .before .before .before .before .before .before .before .number .result) (omega arith) (c .before .before .before .before .before .before .before .before .before .before .before .before .before .before .number .ensures) (c .before .before .before .before .before .before .before .before .before .before .before .before .push-times .ensures) (c .before .before .before .before .before .before .before .push-number .result) (c .before .before .push-all3 .result) _ _ (c .before .before .before .before .before .before .before .push-number .ensures) (c .before .before .push-all3 .ensures) in
+    (omega (arith, h), omega (arith, h))
 
 same-length-3 : tie.Need-same-length-3
 same-length-3 c = search needs
 
 returns-3 : tie.Need-returns-3
-returns-3 c = let a = c .before .before .before .before .before .before .before .before .before .before .before .before .before .before .before .before .before .before .args .self in item-numbers a (c .before .before .before .before .before .before .before .before .before .before .before .before .before .push-times .result) _ _ (c .before .before .before .before .before .before .before .before .before .before .before .before .before .before .before .number .result) (omega arith) (c .before .before .before .before .before .before .before .before .before .before .before .before .before .before .before .number .ensures) (c .before .before .before .before .before .before .before .before .before .before .before .before .before .push-times .ensures) (c .before .before .before .before .before .before .before .before .push-number .result) (c .before .before .before .push-all3 .result) _ _ (c .before .before .before .before .before .before .before .before .push-number .ensures) (c .before .before .before .push-all3 .ensures) _ (c .before .before .before .before .before .before .before .before .before .before .if2 .left) (c .counted .ensures _)
+returns-3 c =
+    let a = c .before .before .before .before .before .before .before .before .before .before .before .before .before .before .before .before .before .before .args .self in
+    item-numbers a (c .before .before .before .before .before .before .before .before .before .before .before .before .before .push-times .result) _ _ (c .before .before .before .before .before .before .before .before .before .before .before .before .before .before .before .number .result) (omega arith) (c .before .before .before .before .before .before .before .before .before .before .before .before .before .before .before .number .ensures) (c .before .before .before .before .before .before .before .before .before .before .before .before .before .push-times .ensures) (c .before .before .before .before .before .before .before .before .push-number .result) (c .before .before .before .push-all3 .result) _ _ (c .before .before .before .before .before .before .before .before .push-number .ensures) (c .before .before .before .push-all3 .ensures) _ (c .before .before .before .before .before .before .before .before .before .before .if2 .left) (c .counted .ensures _)
 
 pub item-spec : {M : Type 1} → statement M
 item-spec =

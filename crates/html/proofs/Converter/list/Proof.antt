@@ -20,31 +20,42 @@ closed-requires : tie.Need-closed-requires
 closed-requires c κs = search needs
 
 changed-requires : tie.Need-changed-requires
-changed-requires c κs = let w = now (c .before .before .before .before .args .out) in omega (arith, len-of _ w _ (c .before .closed .ensures w), len-of (c .before .before .before .before .args .self) w _ refl)
+changed-requires c κs =
+    let w = now (c .before .before .before .before .args .out) in
+    omega (arith, len-of _ w _ (c .before .closed .ensures w), len-of (c .before .before .before .before .args .self) w _ refl)
 
 same-length : tie.Need-same-length
 same-length c = search needs
 
 returns : tie.Need-returns
 unfolding tagged
-returns c = let a = c .before .before .before .before .before .before .before .args in rw (c .before .before .before .before .before .if1 .taken) (list-closes (a .first) (a .self) (c .before .before .before .before .closed .result) _ (now (a .out)) _ (c .before .before .before .before .closed .ensures (now (a .out))) (c .before .before .changed .ensures))
+returns c =
+    let a = c .before .before .before .before .before .before .before .args in
+    rw (c .before .before .before .before .before .if1 .taken) (list-closes (a .first) (a .self) (c .before .before .before .before .closed .result) _ (now (a .out)) _ (c .before .before .before .before .closed .ensures (now (a .out))) (c .before .before .changed .ensures))
 
 returns-2 : tie.Need-returns-2
 unfolding tagged
-returns-2 c = let a = c .before .before .before .before .args in let w = now (a .out) in rw (c .before .before .if1 .left) (list-full (a .first) (state-of (a .self) w) (omega (arith, depth-is (a .self) w _ refl, c .if2 .taken)))
+returns-2 c =
+    let a = c .before .before .before .before .args in
+    let w = now (a .out) in
+    rw (c .before .before .if1 .left) (list-full (a .first) (state-of (a .self) w) (omega (arith, depth-is (a .self) w _ refl, c .if2 .taken)))
 
 opened-requires : tie.Need-opened-requires
 opened-requires c κs = search needs
 
 changed-requires-2 : tie.Need-changed-requires-2
-changed-requires-2 c κs = let w = now (c .before .before .before .before .before .before .args .out) in omega (arith, len-of _ w _ (c .before .opened .ensures w), len-of (c .before .before .before .before .before .before .args .self) w _ refl)
+changed-requires-2 c κs =
+    let w = now (c .before .before .before .before .before .before .args .out) in
+    omega (arith, len-of _ w _ (c .before .opened .ensures w), len-of (c .before .before .before .before .before .before .args .self) w _ refl)
 
 same-length-2 : tie.Need-same-length-2
 same-length-2 c = search needs
 
 returns-3 : tie.Need-returns-3
 unfolding tagged
-returns-3 c = let a = c .before .before .before .before .before .before .before .before .before .args in rw (c .before .before .before .before .before .before .before .if1 .left) (list-opens (a .first) (a .self) (c .before .before .before .before .opened .result) _ (now (a .out)) _ (omega (arith, c .before .before .before .before .before .if2 .left)) (c .before .before .before .before .opened .ensures (now (a .out))) (c .before .before .changed2 .ensures))
+returns-3 c =
+    let a = c .before .before .before .before .before .before .before .before .before .args in
+    rw (c .before .before .before .before .before .before .before .if1 .left) (list-opens (a .first) (a .self) (c .before .before .before .before .opened .result) _ (now (a .out)) _ (omega (arith, c .before .before .before .before .before .if2 .left)) (c .before .before .before .before .opened .ensures (now (a .out))) (c .before .before .changed2 .ensures))
 
 pub list-spec : {M : Type 1} → statement M
 list-spec =

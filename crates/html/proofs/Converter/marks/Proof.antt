@@ -29,14 +29,18 @@ spaced-requires : tie.Need-spaced-requires
 spaced-requires c κs = search needs
 
 push-all-requires-2 : tie.Need-push-all-requires-2
-push-all-requires-2 c κs = let k = spaced-len (c .before .before .before .spaced .result) (c .before .before .before .before .before .before .before .before .args .self .len) (now (c .before .before .before .before .before .before .before .before .args .out)) _ (c .before .before .before .before .before .before .before .before .args .self .space) (c .before .before .before .spaced .ensures) in let m = pending-most (c .before .before .before .before .before .before .before .before .args .self .space) in (omega arith, c .before .before .before .before .before .before .before .before .pre .1)
+push-all-requires-2 c κs =
+    let k = spaced-len (c .before .before .before .spaced .result) (c .before .before .before .before .before .before .before .before .args .self .len) (now (c .before .before .before .before .before .before .before .before .args .out)) _ (c .before .before .before .before .before .before .before .before .args .self .space) (c .before .before .before .spaced .ensures) in
+    let m = pending-most (c .before .before .before .before .before .before .before .before .args .self .space) in
+    (omega arith, c .before .before .before .before .before .before .before .before .pre .1)
 
 same-length-2 : tie.Need-same-length-2
 same-length-2 c = search needs
 
 returns-2 : tie.Need-returns-2
 unfolding marks-of state-of
-returns-2 c = rw (c .before .before .before .before .before .before .before .before .if1 .left) (c .before .before .push-all2 .ensures ∙ ap (push-str (now (c .before .before .before .before .before .before .before .before .before .before .before .args .mark))) (spaced-state (c .before .before .before .before .before .before .before .before .before .before .before .args .self) (c .before .before .before .before .before .before .spaced .result) (now (c .before .before .before .before .before .before .before .before .before .before .before .args .out)) _ (c .before .before .before .before .before .before .spaced .ensures)))
+returns-2 c =
+    rw (c .before .before .before .before .before .before .before .before .if1 .left) (c .before .before .push-all2 .ensures ∙ ap (push-str (now (c .before .before .before .before .before .before .before .before .before .before .before .args .mark))) (spaced-state (c .before .before .before .before .before .before .before .before .before .before .before .args .self) (c .before .before .before .before .before .before .spaced .result) (now (c .before .before .before .before .before .before .before .before .before .before .before .args .out)) _ (c .before .before .before .before .before .before .spaced .ensures)))
 
 pub marks-spec : {M : Type 1} → statement M
 marks-spec =

@@ -25,7 +25,10 @@ add-self c = search needs
 
 returns : tie.Need-returns
 unfolding state-of
-returns c = let a = c .args .t1 in let h : a .depth < length (a .lists) = search needs in λ w. ap (λ (l : List ℕ). with-lists l (state-of a w)) (upto-push (a .depth) (a .lists) _ h)
+returns c =
+    let a = c .args .t1 in
+    let h : a .depth < length (a .lists) = search needs in
+    λ w. ap (λ (l : List ℕ). with-lists l (state-of a w)) (upto-push (a .depth) (a .lists) _ h)
 
 pub opened-spec : {M : Type 1} → statement M
 opened-spec = tie.close (tie.spec mul-self element-write-self add-self returns)

@@ -16,7 +16,8 @@ use Rattle.html.proofs.Converter.push_all.Reads as reads
 use Rattle.html.proofs.Converter.push_all.Lts as lts
 
 abbrev Inv-loop : tie.InvT-loop
-Inv-loop self out₀ bytes at₀ i₀ out at i = (i ≤ length bytes) × (at ≡ self .len + i) × (length out ≡ length out₀) × (reverseAux (drop i bytes) (out-of at out) ≡ reverseAux bytes (out-of (self .len) out₀))
+Inv-loop self out₀ bytes at₀ i₀ out at i =
+    (i ≤ length bytes) × (at ≡ self .len + i) × (length out ≡ length out₀) × (reverseAux (drop i bytes) (out-of at out) ≡ reverseAux bytes (out-of (self .len) out₀))
 
 abbrev μ-loop : tie.MeasureT-loop
 μ-loop self out₀ bytes at₀ i₀ out at i = length bytes - i
@@ -40,14 +41,20 @@ loop-less : tie.Need-loop-less Inv-loop μ-loop
 loop-less c = search needs
 
 loop-again : tie.Need-loop-again Inv-loop μ-loop
-loop-again c = let l = c .before .before .loop in let b = now (c .before .before .before .args .bytes) in (omega arith, omega arith, simp length-set (l .inv .2), all-more b (l .out) (l .at) (l .i) (c .before .before .before .pre .1) (omega arith) (omega arith) (l .inv .3))
+loop-again c =
+    let l = c .before .before .loop in
+    let b = now (c .before .before .before .args .bytes) in
+    (omega arith, omega arith, simp length-set (l .inv .2), all-more b (l .out) (l .at) (l .i) (c .before .before .before .pre .1) (omega arith) (omega arith) (l .inv .3))
 
 same-length : tie.Need-same-length Inv-loop μ-loop
 same-length c = search needs
 
 returns : tie.Need-returns Inv-loop μ-loop
 unfolding state-of
-returns c = let l = c .before .loop in let a = c .before .before .args in ap (λ (o : List ℕ). with-out o (a .self .space) (state-of (a .self) (now (a .out)))) (all-done (now (a .bytes)) (l .out) (l .at) (l .i) (omega arith) (l .inv .3))
+returns c =
+    let l = c .before .loop in
+    let a = c .before .before .args in
+    ap (λ (o : List ℕ). with-out o (a .self .space) (state-of (a .self) (now (a .out)))) (all-done (now (a .bytes)) (l .out) (l .at) (l .i) (omega arith) (l .inv .3))
 
 pub push-all-spec : {M : Type 1} → statement M
 push-all-spec =

@@ -16,7 +16,8 @@ use Rattle.html.proofs.Converter.push_times.Reads as reads
 use Rattle.html.proofs.Converter.push_times.Lts as lts
 
 abbrev Inv-loop : tie.InvT-loop
-Inv-loop self out₀ byte times at₀ left₀ out at left = (at + left ≡ self .len + times) × (length out ≡ length out₀) × (reverseAux (replicate left byte) (out-of at out) ≡ reverseAux (replicate times byte) (out-of (self .len) out₀))
+Inv-loop self out₀ byte times at₀ left₀ out at left =
+    (at + left ≡ self .len + times) × (length out ≡ length out₀) × (reverseAux (replicate left byte) (out-of at out) ≡ reverseAux (replicate times byte) (out-of (self .len) out₀))
 
 abbrev μ-loop : tie.MeasureT-loop
 μ-loop self out₀ byte times at₀ left₀ out at left = left
@@ -37,14 +38,20 @@ loop-less : tie.Need-loop-less Inv-loop μ-loop
 loop-less c = search needs
 
 loop-again : tie.Need-loop-again Inv-loop μ-loop
-loop-again c = let l = c .before .loop in (omega arith, simp length-set (l .inv .1), times-more (l .out) (l .at) (c .before .before .args .byte) (l .left) (c .before .before .pre .1) (omega arith) (omega arith) (l .inv .2))
+loop-again c =
+    let l = c .before .loop in
+    (omega arith, simp length-set (l .inv .1), times-more (l .out) (l .at) (c .before .before .args .byte) (l .left) (c .before .before .pre .1) (omega arith) (omega arith) (l .inv .2))
 
 same-length : tie.Need-same-length Inv-loop μ-loop
 same-length c = search needs
 
 returns : tie.Need-returns Inv-loop μ-loop
 unfolding state-of
-returns c = let l = c .before .loop in let a = c .before .before .args in let z : l .left ≡ 0 = omega arith in ap (λ (o : List ℕ). with-out o (a .self .space) (state-of (a .self) (now (a .out)))) (rw z at (l .inv .2))
+returns c =
+    let l = c .before .loop in
+    let a = c .before .before .args in
+    let z : l .left ≡ 0 = omega arith in
+    ap (λ (o : List ℕ). with-out o (a .self .space) (state-of (a .self) (now (a .out)))) (rw z at (l .inv .2))
 
 pub push-times-spec : {M : Type 1} → statement M
 push-times-spec =

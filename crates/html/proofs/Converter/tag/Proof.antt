@@ -38,13 +38,15 @@ same-length : tie.Need-same-length
 same-length c = search needs
 
 returns : tie.Need-returns
-returns c = rw (c .before .before .before .before .enum-told .given .1) (c .before .before .list .ensures ∙ listed-ul _ _)
+returns c =
+    rw (c .before .before .before .before .enum-told .given .1) (c .before .before .list .ensures ∙ listed-ul _ _)
 
 same-length-2 : tie.Need-same-length-2
 same-length-2 c = search needs
 
 returns-2 : tie.Need-returns-2
-returns-2 c = rw (c .before .before .before .before .enum-told2 .given .1) (c .before .before .list2 .ensures ∙ listed-ol _ _)
+returns-2 c =
+    rw (c .before .before .before .before .enum-told2 .given .1) (c .before .before .list2 .ensures ∙ listed-ol _ _)
 
 returns-3 : tie.Need-returns-3
 unfolding tagged
@@ -55,7 +57,8 @@ same-length-3 c = search needs
 
 returns-4 : tie.Need-returns-4
 unfolding tagged
-returns-4 c = rw (c .before .before .before .before .before .tag .given .1) (ap some (c .before .before .step .ensures) ∙ listed-step (c .before .before .before .before .before .tag .given .0 .0) (c .before .before .before .before .before .before .before .before .args .closing) (state-of (c .before .before .before .before .before .before .before .before .args .self) (now (c .before .before .before .before .before .before .before .before .args .out))))
+returns-4 c =
+    rw (c .before .before .before .before .before .tag .given .1) (ap some (c .before .before .step .ensures) ∙ listed-step (c .before .before .before .before .before .tag .given .0 .0) (c .before .before .before .before .before .before .before .before .args .closing) (state-of (c .before .before .before .before .before .before .before .before .args .self) (now (c .before .before .before .before .before .before .before .before .args .out))))
 
 pub tag-spec : {M : Type 1} → statement M
 tag-spec =

@@ -25,7 +25,9 @@ shared-slice-read-to : tie.Need-shared-slice-read-to Inv-loop μ-loop
 shared-slice-read-to c = c .before .loop-test .taken
 
 slice-write-to : tie.Need-slice-write-to Inv-loop μ-loop
-slice-write-to c = let v = c .before .before .loop .inv in omega (arith, filled-length _ _ _ _ v, c .before .loop-test .taken, c .before .before .before .pre)
+slice-write-to c =
+    let v = c .before .before .loop .inv in
+    omega (arith, filled-length _ _ _ _ v, c .before .loop-test .taken, c .before .before .before .pre)
 
 add-i : tie.Need-add-i Inv-loop μ-loop
 add-i c = omega arith
@@ -34,7 +36,8 @@ loop-less : tie.Need-loop-less Inv-loop μ-loop
 loop-less c = omega arith
 
 loop-again : tie.Need-loop-again Inv-loop μ-loop
-loop-again c = copy-more _ _ _ _ (c .before .before .loop .inv) (c .before .loop-test .taken) (c .before .before .before .pre)
+loop-again c =
+    copy-more _ _ _ _ (c .before .before .loop .inv) (c .before .loop-test .taken) (c .before .before .before .pre)
 
 same-length : tie.Need-same-length Inv-loop μ-loop
 same-length c = filled-length _ _ _ _ (c .before .loop .inv)

@@ -30,13 +30,17 @@ first-requires : tie.Need-first-requires
 first-requires c κs = search needs
 
 copy-requires : tie.Need-copy-requires
-copy-requires c κs = let q = notes-is (now (c .before .first .result)) (now (c .before .before .trim .result)) (now (c .before .before .before .before .before .before .args .work)) (c .before .before .before .before .before .before .args .len) (c .before .before .trim .ensures) (c .before .first .ensures) in omega (arith, ap length q, first-most 8000 (trim (chars (take (c .before .before .before .before .before .before .args .len) (now (c .before .before .before .before .before .before .args .work))))), c .before .before .before .before .before .before .pre .1)
+copy-requires c κs =
+    let q = notes-is (now (c .before .first .result)) (now (c .before .before .trim .result)) (now (c .before .before .before .before .before .before .args .work)) (c .before .before .before .before .before .before .args .len) (c .before .before .trim .ensures) (c .before .first .ensures) in
+    omega (arith, ap length q, first-most 8000 (trim (chars (take (c .before .before .before .before .before .before .args .len) (now (c .before .before .before .before .before .before .args .work))))), c .before .before .before .before .before .before .pre .1)
 
 same-length : tie.Need-same-length
 same-length c = search needs
 
 returns : tie.Need-returns
-returns c = let q = notes-is (now (c .before .before .before .before .first .result)) (now (c .before .before .before .before .before .trim .result)) (now (c .before .before .before .before .before .before .before .before .before .args .work)) (c .before .before .before .before .before .before .before .before .before .args .len) (c .before .before .before .before .before .trim .ensures) (c .before .before .before .before .first .ensures) in (ap length q, c .before .before .copy .ensures ∙ ap (λ (x : List ℕ). front x (now (c .before .before .before .before .before .before .before .before .before .args .result))) q)
+returns c =
+    let q = notes-is (now (c .before .before .before .before .first .result)) (now (c .before .before .before .before .before .trim .result)) (now (c .before .before .before .before .before .before .before .before .before .args .work)) (c .before .before .before .before .before .before .before .before .before .args .len) (c .before .before .before .before .before .trim .ensures) (c .before .before .before .before .first .ensures) in
+    (ap length q, c .before .before .copy .ensures ∙ ap (λ (x : List ℕ). front x (now (c .before .before .before .before .before .before .before .before .before .args .result))) q)
 
 pub finish-spec : {M : Type 1} → statement M
 finish-spec =

@@ -25,13 +25,18 @@ loop-holds : tie.Need-loop-holds Inv-loop μ-loop
 loop-holds c = (pos-zero _, omega arith)
 
 returns : tie.Need-returns Inv-loop μ-loop
-returns c = let s = now (c .before .before .before .before .args .s) in let h = pos-end s _ _ (c .before .before .loop .inv .0) (c .if1 .taken) in sym (ap encode (take-all (c .before .before .before .before .args .n) (chars s) (omega arith)) ∙ encode-chars s)
+returns c =
+    let s = now (c .before .before .before .before .args .s) in
+    let h = pos-end s _ _ (c .before .before .loop .inv .0) (c .if1 .taken) in
+    sym (ap encode (take-all (c .before .before .before .before .args .n) (chars s) (omega arith)) ∙ encode-chars s)
 
 size-at-requires : tie.Need-size-at-requires Inv-loop μ-loop
 size-at-requires c κs = search needs
 
 add-i : tie.Need-add-i Inv-loop μ-loop
-add-i c = let h : Next (now (c .before .before .before .before .before .args .s)) (c .before .before .before .loop .i) (c .size-at .result) = rw (c .size-at .ensures) (next-is (now (c .before .before .before .before .before .args .s)) (c .before .before .before .loop .i) (c .before .if1 .left)) in omega (arith, h .bound)
+add-i c =
+    let h : Next (now (c .before .before .before .before .before .args .s)) (c .before .before .before .loop .i) (c .size-at .result) = rw (c .size-at .ensures) (next-is (now (c .before .before .before .before .before .args .s)) (c .before .before .before .loop .i) (c .before .if1 .left)) in
+    omega (arith, h .bound)
 
 add-k : tie.Need-add-k Inv-loop μ-loop
 add-k c = omega arith
@@ -40,13 +45,19 @@ loop-less : tie.Need-loop-less Inv-loop μ-loop
 loop-less c = omega arith
 
 loop-again : tie.Need-loop-again Inv-loop μ-loop
-loop-again c = let h : Next (now (c .before .before .before .before .before .args .s)) (c .before .before .before .loop .i) (c .size-at .result) = rw (c .size-at .ensures) (next-is (now (c .before .before .before .before .before .args .s)) (c .before .before .before .loop .i) (c .before .if1 .left)) in (pos-next _ _ _ _ (c .before .before .before .loop .inv .0) h, omega arith)
+loop-again c =
+    let h : Next (now (c .before .before .before .before .before .args .s)) (c .before .before .before .loop .i) (c .size-at .result) = rw (c .size-at .ensures) (next-is (now (c .before .before .before .before .before .args .s)) (c .before .before .before .loop .i) (c .before .if1 .left)) in
+    (pos-next _ _ _ _ (c .before .before .before .loop .inv .0) h, omega arith)
 
 slice-aggregate-result : tie.Need-slice-aggregate-result Inv-loop μ-loop
 slice-aggregate-result c = sym (length-take-le _ _ (c .before .before .loop .inv .0 .bound))
 
 returns-2 : tie.Need-returns-2 Inv-loop μ-loop
-returns-2 c = let v = c .before .before .loop .inv in let q : c .before .before .loop .k ≡ c .before .before .before .before .args .n = omega arith in v .0 .front ∙ rw q
+returns-2 c =
+    let v = c .before .before .loop .inv in
+    let q : c .before .before .loop .k ≡ c .before .before .before .before .args .n = omega arith in
+    v .0 .front
+    ∙ rw q
 
 pub first-spec : {M : Type 1} → statement M
 first-spec =

@@ -26,7 +26,10 @@ loop-holds : tie.Need-loop-holds Inv-loop μ-loop
 loop-holds c = (omega arith, refl)
 
 returns : tie.Need-returns Inv-loop μ-loop
-returns c = let a = c .before .before .before .before .before .args in let l = c .before .before .loop in rw (← l .inv .1, name-end (now (a .s)) (l .i) (c .if1 .taken), same-short (now (a .name)) (l .i) (c .before .loop-test .taken))
+returns c =
+    let a = c .before .before .before .before .before .args in
+    let l = c .before .before .loop in
+    rw (← l .inv .1, name-end (now (a .s)) (l .i) (c .if1 .taken), same-short (now (a .name)) (l .i) (c .before .loop-test .taken))
 
 shared-slice-read-folded : tie.Need-shared-slice-read-folded Inv-loop μ-loop
 shared-slice-read-folded c = search needs
@@ -35,13 +38,21 @@ folded-requires : tie.Need-folded-requires Inv-loop μ-loop
 folded-requires c κs = search needs
 
 returns-2 : tie.Need-returns-2 Inv-loop μ-loop
-returns-2 c = let a = c .before .before .before .before .before .before .before .before .args in let l = c .before .before .before .before .before .loop in let h : l .i < length (now (a .s)) = omega arith in rw (← l .inv .1, name-stop (now (a .s)) (l .i) h (sym (c .before .folded .ensures) ∙ c .if2 .taken), same-short (now (a .name)) (l .i) (c .before .before .before .before .loop-test .taken))
+returns-2 c =
+    let a = c .before .before .before .before .before .before .before .before .args in
+    let l = c .before .before .before .before .before .loop in
+    let h : l .i < length (now (a .s)) = omega arith in
+    rw (← l .inv .1, name-stop (now (a .s)) (l .i) h (sym (c .before .folded .ensures) ∙ c .if2 .taken), same-short (now (a .name)) (l .i) (c .before .before .before .before .loop-test .taken))
 
 shared-slice-read-if3 : tie.Need-shared-slice-read-if3 Inv-loop μ-loop
 shared-slice-read-if3 c = search needs
 
 returns-3 : tie.Need-returns-3 Inv-loop μ-loop
-returns-3 c = let a = c .before .before .before .before .before .before .before .before .before .before .args in let l = c .before .before .before .before .before .before .before .loop in let h : l .i < length (now (a .s)) = omega arith in rw (← l .inv .1, name-more (now (a .s)) (l .i) h (λ e. c .before .before .if2 .left (c .before .before .before .folded .ensures ∙ e)), same-other (now (a .name)) _ (l .i) _ (c .before .before .before .before .before .before .loop-test .taken) (λ e. c .if3 .taken (c .before .before .before .folded .ensures ∙ e)))
+returns-3 c =
+    let a = c .before .before .before .before .before .before .before .before .before .before .args in
+    let l = c .before .before .before .before .before .before .before .loop in
+    let h : l .i < length (now (a .s)) = omega arith in
+    rw (← l .inv .1, name-more (now (a .s)) (l .i) h (λ e. c .before .before .if2 .left (c .before .before .before .folded .ensures ∙ e)), same-other (now (a .name)) _ (l .i) _ (c .before .before .before .before .before .before .loop-test .taken) (λ e. c .if3 .taken (c .before .before .before .folded .ensures ∙ e)))
 
 add-i : tie.Need-add-i Inv-loop μ-loop
 add-i c = search needs
@@ -50,10 +61,18 @@ loop-less : tie.Need-loop-less Inv-loop μ-loop
 loop-less c = search needs
 
 loop-again : tie.Need-loop-again Inv-loop μ-loop
-loop-again c = let a = c .before .before .before .before .before .before .before .before .before .before .args in let l = c .before .before .before .before .before .before .before .loop in let h : l .i < length (now (a .s)) = omega arith in let more = name-more (now (a .s)) (l .i) h (λ e. c .before .before .if2 .left (c .before .before .before .folded .ensures ∙ e)) in (omega arith, sym (same-more (now (a .name)) _ (l .i) _ (c .before .before .before .before .before .before .loop-test .taken) (sym (c .before .before .before .folded .ensures) ∙ c .if3 .left)) ∙ sym (ap (λ (m : List ℕ). same (drop (l .i) (now (a .name))) m) more) ∙ l .inv .1)
+loop-again c =
+    let a = c .before .before .before .before .before .before .before .before .before .before .args in
+    let l = c .before .before .before .before .before .before .before .loop in
+    let h : l .i < length (now (a .s)) = omega arith in
+    let more = name-more (now (a .s)) (l .i) h (λ e. c .before .before .if2 .left (c .before .before .before .folded .ensures ∙ e)) in
+    (omega arith, sym (same-more (now (a .name)) _ (l .i) _ (c .before .before .before .before .before .before .loop-test .taken) (sym (c .before .before .before .folded .ensures) ∙ c .if3 .left)) ∙ sym (ap (λ (m : List ℕ). same (drop (l .i) (now (a .name))) m) more) ∙ l .inv .1)
 
 returns-4 : tie.Need-returns-4 Inv-loop μ-loop
-returns-4 c = let a = c .before .before .before .before .before .args in let l = c .before .before .loop in rw (← l .inv .1, name-end (now (a .s)) (l .i) (c .if4 .taken), same-done (now (a .name)) (l .i) (c .before .loop-test .left))
+returns-4 c =
+    let a = c .before .before .before .before .before .args in
+    let l = c .before .before .loop in
+    rw (← l .inv .1, name-end (now (a .s)) (l .i) (c .if4 .taken), same-done (now (a .name)) (l .i) (c .before .loop-test .left))
 
 shared-slice-read-folded-2 : tie.Need-shared-slice-read-folded-2 Inv-loop μ-loop
 shared-slice-read-folded-2 c = search needs
@@ -62,7 +81,11 @@ folded-requires-2 : tie.Need-folded-requires-2 Inv-loop μ-loop
 folded-requires-2 c κs = search needs
 
 returns-5 : tie.Need-returns-5 Inv-loop μ-loop
-returns-5 c = let a = c .before .before .before .before .before .before .before .args in let l = c .before .before .before .before .loop in let h : l .i < length (now (a .s)) = omega arith in rw (c .folded2 .ensures) (same-last (now (a .name)) (now (a .s)) (l .i) (c .before .before .before .loop-test .left) h ∙ l .inv .1)
+returns-5 c =
+    let a = c .before .before .before .before .before .before .before .args in
+    let l = c .before .before .before .before .loop in
+    let h : l .i < length (now (a .s)) = omega arith in
+    rw (c .folded2 .ensures) (same-last (now (a .name)) (now (a .s)) (l .i) (c .before .before .before .loop-test .left) h ∙ l .inv .1)
 
 pub named-spec : {M : Type 1} → statement M
 named-spec =

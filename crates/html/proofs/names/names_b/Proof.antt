@@ -18,7 +18,9 @@ named-requires : tie.Need-named-requires
 named-requires c κs = search needs
 
 returns : tie.Need-returns
-returns c = named-yes _ _ (name-of (now (c .before .before .before .before .args .s))) _ (c .before .named .ensures) (c .if1 .taken) ∙ sym (says-b (name-of (now (c .before .before .before .before .args .s))) (c .before .before .before .before .pre))
+returns c =
+    named-yes _ _ (name-of (now (c .before .before .before .before .args .s))) _ (c .before .named .ensures) (c .if1 .taken)
+    ∙ sym (says-b (name-of (now (c .before .before .before .before .args .s))) (c .before .before .before .before .pre))
 
 slice-aggregate-named-2 : tie.Need-slice-aggregate-named-2
 slice-aggregate-named-2 c = search needs
@@ -27,7 +29,10 @@ named-requires-2 : tie.Need-named-requires-2
 named-requires-2 c κs = search needs
 
 returns-2 : tie.Need-returns-2
-returns-2 c = named-yes _ _ (name-of (now (c .before .before .before .before .before .before .before .args .s))) _ (c .before .named2 .ensures) (c .if2 .taken) ∙ sym (named-no _ _ (name-of (now (c .before .before .before .before .before .before .before .args .s))) _ (c .before .before .before .before .named .ensures) (c .before .before .before .if1 .left)) ∙ sym (says-b (name-of (now (c .before .before .before .before .before .before .before .args .s))) (c .before .before .before .before .before .before .before .pre))
+returns-2 c =
+    named-yes _ _ (name-of (now (c .before .before .before .before .before .before .before .args .s))) _ (c .before .named2 .ensures) (c .if2 .taken)
+    ∙ sym (named-no _ _ (name-of (now (c .before .before .before .before .before .before .before .args .s))) _ (c .before .before .before .before .named .ensures) (c .before .before .before .if1 .left))
+    ∙ sym (says-b (name-of (now (c .before .before .before .before .before .before .before .args .s))) (c .before .before .before .before .before .before .before .pre))
 
 slice-aggregate-named-3 : tie.Need-slice-aggregate-named-3
 slice-aggregate-named-3 c = search needs
@@ -36,10 +41,19 @@ named-requires-3 : tie.Need-named-requires-3
 named-requires-3 c κs = search needs
 
 returns-3 : tie.Need-returns-3
-returns-3 c = named-yes _ _ (name-of (now (c .before .before .before .before .before .before .before .before .before .before .args .s))) _ (c .before .named3 .ensures) (c .if3 .taken) ∙ sym (named-no _ _ (name-of (now (c .before .before .before .before .before .before .before .before .before .before .args .s))) _ (c .before .before .before .before .named2 .ensures) (c .before .before .before .if2 .left)) ∙ sym (named-no _ _ (name-of (now (c .before .before .before .before .before .before .before .before .before .before .args .s))) _ (c .before .before .before .before .before .before .before .named .ensures) (c .before .before .before .before .before .before .if1 .left)) ∙ sym (says-b (name-of (now (c .before .before .before .before .before .before .before .before .before .before .args .s))) (c .before .before .before .before .before .before .before .before .before .before .pre))
+returns-3 c =
+    named-yes _ _ (name-of (now (c .before .before .before .before .before .before .before .before .before .before .args .s))) _ (c .before .named3 .ensures) (c .if3 .taken)
+    ∙ sym (named-no _ _ (name-of (now (c .before .before .before .before .before .before .before .before .before .before .args .s))) _ (c .before .before .before .before .named2 .ensures) (c .before .before .before .if2 .left))
+    ∙ sym (named-no _ _ (name-of (now (c .before .before .before .before .before .before .before .before .before .before .args .s))) _ (c .before .before .before .before .before .before .before .named .ensures) (c .before .before .before .before .before .before .if1 .left))
+    ∙ sym (says-b (name-of (now (c .before .before .before .before .before .before .before .before .before .before .args .s))) (c .before .before .before .before .before .before .before .before .before .before .pre))
 
 returns-4 : tie.Need-returns-4
-returns-4 c = find-nil (name-of (now (c .before .before .before .before .before .before .before .before .before .before .args .s))) ∙ sym (named-no _ _ (name-of (now (c .before .before .before .before .before .before .before .before .before .before .args .s))) _ (c .before .named3 .ensures) (c .if3 .left)) ∙ sym (named-no _ _ (name-of (now (c .before .before .before .before .before .before .before .before .before .before .args .s))) _ (c .before .before .before .before .named2 .ensures) (c .before .before .before .if2 .left)) ∙ sym (named-no _ _ (name-of (now (c .before .before .before .before .before .before .before .before .before .before .args .s))) _ (c .before .before .before .before .before .before .before .named .ensures) (c .before .before .before .before .before .before .if1 .left)) ∙ sym (says-b (name-of (now (c .before .before .before .before .before .before .before .before .before .before .args .s))) (c .before .before .before .before .before .before .before .before .before .before .pre))
+returns-4 c =
+    find-nil (name-of (now (c .before .before .before .before .before .before .before .before .before .before .args .s)))
+    ∙ sym (named-no _ _ (name-of (now (c .before .before .before .before .before .before .before .before .before .before .args .s))) _ (c .before .named3 .ensures) (c .if3 .left))
+    ∙ sym (named-no _ _ (name-of (now (c .before .before .before .before .before .before .before .before .before .before .args .s))) _ (c .before .before .before .before .named2 .ensures) (c .before .before .before .if2 .left))
+    ∙ sym (named-no _ _ (name-of (now (c .before .before .before .before .before .before .before .before .before .before .args .s))) _ (c .before .before .before .before .before .before .before .named .ensures) (c .before .before .before .before .before .before .if1 .left))
+    ∙ sym (says-b (name-of (now (c .before .before .before .before .before .before .before .before .before .before .args .s))) (c .before .before .before .before .before .before .before .before .before .before .pre))
 
 pub names-b-spec : {M : Type 1} → statement M
 names-b-spec =

@@ -18,7 +18,9 @@ named-requires : tie.Need-named-requires
 named-requires c κs = search needs
 
 returns : tie.Need-returns
-returns c = named-yes _ _ (name-of (now (c .before .before .before .before .args .s))) _ (c .before .named .ensures) (c .if1 .taken) ∙ sym (says-p (name-of (now (c .before .before .before .before .args .s))) (c .before .before .before .before .pre))
+returns c =
+    named-yes _ _ (name-of (now (c .before .before .before .before .args .s))) _ (c .before .named .ensures) (c .if1 .taken)
+    ∙ sym (says-p (name-of (now (c .before .before .before .before .args .s))) (c .before .before .before .before .pre))
 
 slice-aggregate-named-2 : tie.Need-slice-aggregate-named-2
 slice-aggregate-named-2 c = search needs
@@ -27,10 +29,17 @@ named-requires-2 : tie.Need-named-requires-2
 named-requires-2 c κs = search needs
 
 returns-2 : tie.Need-returns-2
-returns-2 c = named-yes _ _ (name-of (now (c .before .before .before .before .before .before .before .args .s))) _ (c .before .named2 .ensures) (c .if2 .taken) ∙ sym (named-no _ _ (name-of (now (c .before .before .before .before .before .before .before .args .s))) _ (c .before .before .before .before .named .ensures) (c .before .before .before .if1 .left)) ∙ sym (says-p (name-of (now (c .before .before .before .before .before .before .before .args .s))) (c .before .before .before .before .before .before .before .pre))
+returns-2 c =
+    named-yes _ _ (name-of (now (c .before .before .before .before .before .before .before .args .s))) _ (c .before .named2 .ensures) (c .if2 .taken)
+    ∙ sym (named-no _ _ (name-of (now (c .before .before .before .before .before .before .before .args .s))) _ (c .before .before .before .before .named .ensures) (c .before .before .before .if1 .left))
+    ∙ sym (says-p (name-of (now (c .before .before .before .before .before .before .before .args .s))) (c .before .before .before .before .before .before .before .pre))
 
 returns-3 : tie.Need-returns-3
-returns-3 c = find-nil (name-of (now (c .before .before .before .before .before .before .before .args .s))) ∙ sym (named-no _ _ (name-of (now (c .before .before .before .before .before .before .before .args .s))) _ (c .before .named2 .ensures) (c .if2 .left)) ∙ sym (named-no _ _ (name-of (now (c .before .before .before .before .before .before .before .args .s))) _ (c .before .before .before .before .named .ensures) (c .before .before .before .if1 .left)) ∙ sym (says-p (name-of (now (c .before .before .before .before .before .before .before .args .s))) (c .before .before .before .before .before .before .before .pre))
+returns-3 c =
+    find-nil (name-of (now (c .before .before .before .before .before .before .before .args .s)))
+    ∙ sym (named-no _ _ (name-of (now (c .before .before .before .before .before .before .before .args .s))) _ (c .before .named2 .ensures) (c .if2 .left))
+    ∙ sym (named-no _ _ (name-of (now (c .before .before .before .before .before .before .before .args .s))) _ (c .before .before .before .before .named .ensures) (c .before .before .before .if1 .left))
+    ∙ sym (says-p (name-of (now (c .before .before .before .before .before .before .before .args .s))) (c .before .before .before .before .before .before .before .pre))
 
 pub names-p-spec : {M : Type 1} → statement M
 names-p-spec =

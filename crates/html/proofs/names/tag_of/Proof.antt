@@ -22,7 +22,10 @@ use Rattle.html.proofs.names.names_t.Reads as names-t-reads
 
 returns : tie.Need-returns
 unfolding says find writing
-returns c = let a = now (c .before .before .args .s) in let z : length a ≤ 0 = omega arith in sym (ap says (name-end a 0 z))
+returns c =
+    let a = now (c .before .before .args .s) in
+    let z : length a ≤ 0 = omega arith in
+    sym (ap says (name-end a 0 z))
 
 shared-slice-read-folded : tie.Need-shared-slice-read-folded
 shared-slice-read-folded c = search needs
@@ -31,37 +34,54 @@ folded-requires : tie.Need-folded-requires
 folded-requires c κs = search needs
 
 names-b-requires : tie.Need-names-b-requires
-names-b-requires c κs = let q : getD (name-of (now (c .before .before .before .before .before .args .s))) 0 0 ≡ c .before .folded .result = name-first (now (c .before .before .before .before .before .args .s)) (omega arith) ∙ sym (c .before .folded .ensures) in q ∙ c .if2 .taken
+names-b-requires c κs =
+    let q : getD (name-of (now (c .before .before .before .before .before .args .s))) 0 0 ≡ c .before .folded .result = name-first (now (c .before .before .before .before .before .args .s)) (omega arith) ∙ sym (c .before .folded .ensures) in
+    q
+    ∙ c .if2 .taken
 
 returns-2 : tie.Need-returns-2
 returns-2 c = search needs
 
 names-h-requires : tie.Need-names-h-requires
-names-h-requires c κs = let q : getD (name-of (now (c .before .before .before .before .before .before .args .s))) 0 0 ≡ c .before .before .folded .result = name-first (now (c .before .before .before .before .before .before .args .s)) (omega arith) ∙ sym (c .before .before .folded .ensures) in q ∙ c .if3 .taken
+names-h-requires c κs =
+    let q : getD (name-of (now (c .before .before .before .before .before .before .args .s))) 0 0 ≡ c .before .before .folded .result = name-first (now (c .before .before .before .before .before .before .args .s)) (omega arith) ∙ sym (c .before .before .folded .ensures) in
+    q
+    ∙ c .if3 .taken
 
 returns-3 : tie.Need-returns-3
 returns-3 c = search needs
 
 names-p-requires : tie.Need-names-p-requires
-names-p-requires c κs = let q : getD (name-of (now (c .before .before .before .before .before .before .before .args .s))) 0 0 ≡ c .before .before .before .folded .result = name-first (now (c .before .before .before .before .before .before .before .args .s)) (omega arith) ∙ sym (c .before .before .before .folded .ensures) in q ∙ c .if4 .taken
+names-p-requires c κs =
+    let q : getD (name-of (now (c .before .before .before .before .before .before .before .args .s))) 0 0 ≡ c .before .before .before .folded .result = name-first (now (c .before .before .before .before .before .before .before .args .s)) (omega arith) ∙ sym (c .before .before .before .folded .ensures) in
+    q
+    ∙ c .if4 .taken
 
 returns-4 : tie.Need-returns-4
 returns-4 c = search needs
 
 names-s-requires : tie.Need-names-s-requires
-names-s-requires c κs = let q : getD (name-of (now (c .before .before .before .before .before .before .before .before .args .s))) 0 0 ≡ c .before .before .before .before .folded .result = name-first (now (c .before .before .before .before .before .before .before .before .args .s)) (omega arith) ∙ sym (c .before .before .before .before .folded .ensures) in q ∙ c .if5 .taken
+names-s-requires c κs =
+    let q : getD (name-of (now (c .before .before .before .before .before .before .before .before .args .s))) 0 0 ≡ c .before .before .before .before .folded .result = name-first (now (c .before .before .before .before .before .before .before .before .args .s)) (omega arith) ∙ sym (c .before .before .before .before .folded .ensures) in
+    q
+    ∙ c .if5 .taken
 
 returns-5 : tie.Need-returns-5
 returns-5 c = search needs
 
 names-t-requires : tie.Need-names-t-requires
-names-t-requires c κs = let q : getD (name-of (now (c .before .before .before .before .before .before .before .before .before .args .s))) 0 0 ≡ c .before .before .before .before .before .folded .result = name-first (now (c .before .before .before .before .before .before .before .before .before .args .s)) (omega arith) ∙ sym (c .before .before .before .before .before .folded .ensures) in q ∙ c .if6 .taken
+names-t-requires c κs =
+    let q : getD (name-of (now (c .before .before .before .before .before .before .before .before .before .args .s))) 0 0 ≡ c .before .before .before .before .before .folded .result = name-first (now (c .before .before .before .before .before .before .before .before .before .args .s)) (omega arith) ∙ sym (c .before .before .before .before .before .folded .ensures) in
+    q
+    ∙ c .if6 .taken
 
 returns-6 : tie.Need-returns-6
 returns-6 c = search needs
 
 names-other-requires : tie.Need-names-other-requires
-names-other-requires c κs = let q : getD (name-of (now (c .before .before .before .before .before .before .before .before .before .args .s))) 0 0 ≡ c .before .before .before .before .before .folded .result = name-first (now (c .before .before .before .before .before .before .before .before .before .args .s)) (omega arith) ∙ sym (c .before .before .before .before .before .folded .ensures) in record { not-b = λ e. c .before .before .before .before .if2 .left (sym q ∙ sym e); not-h = λ e. c .before .before .before .if3 .left (sym q ∙ sym e); not-p = λ e. c .before .before .if4 .left (sym q ∙ sym e); not-s = λ e. c .before .if5 .left (sym q ∙ sym e); not-t = λ e. c .if6 .left (sym q ∙ sym e) }
+names-other-requires c κs =
+    let q : getD (name-of (now (c .before .before .before .before .before .before .before .before .before .args .s))) 0 0 ≡ c .before .before .before .before .before .folded .result = name-first (now (c .before .before .before .before .before .before .before .before .before .args .s)) (omega arith) ∙ sym (c .before .before .before .before .before .folded .ensures) in
+    record { not-b = λ e. c .before .before .before .before .if2 .left (sym q ∙ sym e); not-h = λ e. c .before .before .before .if3 .left (sym q ∙ sym e); not-p = λ e. c .before .before .if4 .left (sym q ∙ sym e); not-s = λ e. c .before .if5 .left (sym q ∙ sym e); not-t = λ e. c .if6 .left (sym q ∙ sym e) }
 
 returns-7 : tie.Need-returns-7
 returns-7 c = search needs

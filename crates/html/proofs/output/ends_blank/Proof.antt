@@ -20,13 +20,17 @@ shared-slice-read-if2 : tie.Need-shared-slice-read-if2
 shared-slice-read-if2 c = search needs
 
 returns-2 : tie.Need-returns-2
-returns-2 c = let a = c .before .before .before .args in sym (blank-other (a .n) (now (a .out)) (omega arith) (c .if2 .taken))
+returns-2 c =
+    let a = c .before .before .before .args in
+    sym (blank-other (a .n) (now (a .out)) (omega arith) (c .if2 .taken))
 
 shared-slice-read-result : tie.Need-shared-slice-read-result
 shared-slice-read-result c = search needs
 
 returns-3 : tie.Need-returns-3
-returns-3 c = let a = c .before .before .before .before .args in blank-two (a .n) (now (a .out)) (omega arith) (c .before .if2 .left)
+returns-3 c =
+    let a = c .before .before .before .before .args in
+    blank-two (a .n) (now (a .out)) (omega arith) (c .before .if2 .left)
 
 pub ends-blank-spec : {M : Type 1} → statement M
 ends-blank-spec =

@@ -20,7 +20,8 @@ cast-out : tie.Need-cast-out
 cast-out c = search needs
 
 slice-write-out : tie.Need-slice-write-out
-slice-write-out c = omega (arith, c .before .before .pre .0, ap length (utf8-1 (c .before .before .args .c) (c .if1 .taken)))
+slice-write-out c =
+    omega (arith, c .before .before .pre .0, ap length (utf8-1 (c .before .before .args .c) (c .if1 .taken)))
 
 add-result : tie.Need-add-result
 add-result c = search needs
@@ -29,19 +30,26 @@ same-length : tie.Need-same-length
 same-length c = search needs
 
 returns : tie.Need-returns
-returns c = out-push (c .before .before .args .n) (now (c .before .before .args .out)) (c .before .before .args .c) (omega (arith, c .before .before .pre .0, ap length (utf8-1 (c .before .before .args .c) (c .if1 .taken)))) (c .if1 .taken)
+returns c =
+    out-push (c .before .before .args .n) (now (c .before .before .args .out)) (c .before .before .args .c) (omega (arith, c .before .before .pre .0, ap length (utf8-1 (c .before .before .args .c) (c .if1 .taken)))) (c .if1 .taken)
 
 put-requires : tie.Need-put-requires
 put-requires c κs = search needs
 
 add-result-2 : tie.Need-add-result-2
-add-result-2 c = let t = top (c .before .before .before .before .before .before .args .c) (c .before .before .before .before .before .before .pre .1) in let p = put-yes (now (c .before .before .before .before .before .before .args .out)) (c .before .before .before .before .before .before .args .n) (c .before .before .before .before .before .before .args .c) (omega arith) (c .before .before .before .before .before .before .pre .0) in omega (arith, c .before .before .put .ensures .0, p .0, c .before .before .before .before .before .before .pre .0)
+add-result-2 c =
+    let t = top (c .before .before .before .before .before .before .args .c) (c .before .before .before .before .before .before .pre .1) in
+    let p = put-yes (now (c .before .before .before .before .before .before .args .out)) (c .before .before .before .before .before .before .args .n) (c .before .before .before .before .before .before .args .c) (omega arith) (c .before .before .before .before .before .before .pre .0) in
+    omega (arith, c .before .before .put .ensures .0, p .0, c .before .before .before .before .before .before .pre .0)
 
 same-length-2 : tie.Need-same-length-2
 same-length-2 c = search needs
 
 returns-2 : tie.Need-returns-2
-returns-2 c = let t = top (c .before .before .before .before .before .before .args .c) (c .before .before .before .before .before .before .pre .1) in let p = put-yes (now (c .before .before .before .before .before .before .args .out)) (c .before .before .before .before .before .before .args .n) (c .before .before .before .before .before .before .args .c) (omega arith) (c .before .before .before .before .before .before .pre .0) in rw (c .before .before .put .ensures .0, c .before .before .put .ensures .1, ← p .0, ← p .1) (out-put (c .before .before .before .before .before .before .args .n) (now (c .before .before .before .before .before .before .args .out)) (c .before .before .before .before .before .before .args .c) (c .before .before .before .before .before .before .pre .0) (c .before .before .before .before .before .before .pre .1))
+returns-2 c =
+    let t = top (c .before .before .before .before .before .before .args .c) (c .before .before .before .before .before .before .pre .1) in
+    let p = put-yes (now (c .before .before .before .before .before .before .args .out)) (c .before .before .before .before .before .before .args .n) (c .before .before .before .before .before .before .args .c) (omega arith) (c .before .before .before .before .before .before .pre .0) in
+    rw (c .before .before .put .ensures .0, c .before .before .put .ensures .1, ← p .0, ← p .1) (out-put (c .before .before .before .before .before .before .args .n) (now (c .before .before .before .before .before .before .args .out)) (c .before .before .before .before .before .before .args .c) (c .before .before .before .before .before .before .pre .0) (c .before .before .before .before .before .before .pre .1))
 
 pub put-char-spec : {M : Type 1} → statement M
 put-char-spec =

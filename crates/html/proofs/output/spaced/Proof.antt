@@ -20,7 +20,8 @@ same-length : tie.Need-same-length
 same-length c = search needs
 
 returns : tie.Need-returns
-returns c = rw (c .if1 .taken) (out-push (c .before .args .n) (now (c .before .args .out)) 32 (c .before .pre) (omega arith))
+returns c =
+    rw (c .if1 .taken) (out-push (c .before .args .n) (now (c .before .args .out)) 32 (c .before .pre) (omega arith))
 
 returns-2 : tie.Need-returns-2
 returns-2 c = rw (c .if1 .left)

@@ -35,14 +35,27 @@ loop-less : tie.Need-loop-less Inv-loop μ-loop
 loop-less c = search needs
 
 loop-again : tie.Need-loop-again Inv-loop μ-loop
-loop-again c = let l = c .before .before .before .loop in let a = c .before .before .before .before .args in (omega arith, sym (spaces-more (now (a .out)) (l .n) (omega arith) (c .if1 .left)) ∙ l .inv .1)
+loop-again c =
+    let l = c .before .before .before .loop in
+    let a = c .before .before .before .before .args in
+    (omega arith, sym (spaces-more (now (a .out)) (l .n) (omega arith) (c .if1 .left)) ∙ l .inv .1)
 
 returns : tie.Need-returns Inv-loop μ-loop
 unfolding drop-while
-returns c = let l = c .before .loop in let a = c .before .before .args in let z = out-none (l .n) (now (a .out)) (omega arith) in z ∙ sym (ap (drop-while (is " ")) z) ∙ l .inv .1
+returns c =
+    let l = c .before .loop in
+    let a = c .before .before .args in
+    let z = out-none (l .n) (now (a .out)) (omega arith) in
+    z
+    ∙ sym (ap (drop-while (is " ")) z)
+    ∙ l .inv .1
 
 returns-2 : tie.Need-returns-2 Inv-loop μ-loop
-returns-2 c = let l = c .before .before .before .loop in let a = c .before .before .before .before .args in sym (spaces-stop (now (a .out)) (l .n) (omega arith) (c .if1 .taken)) ∙ l .inv .1
+returns-2 c =
+    let l = c .before .before .before .loop in
+    let a = c .before .before .before .before .args in
+    sym (spaces-stop (now (a .out)) (l .n) (omega arith) (c .if1 .taken))
+    ∙ l .inv .1
 
 pub unspaced-spec : {M : Type 1} → statement M
 unspaced-spec =

@@ -30,10 +30,17 @@ starts-with-requires : tie.Need-starts-with-requires Inv-loop μ-loop
 starts-with-requires c κs = search needs
 
 add-result : tie.Need-add-result Inv-loop μ-loop
-add-result c = let s = now (c .before .before .before .before .before .before .args .html) in let l = c .before .before .before .before .loop in omega (arith, arrow-room s (l .j) (sym (c .before .starts-with .ensures) ∙ c .if1 .taken))
+add-result c =
+    let s = now (c .before .before .before .before .before .before .args .html) in
+    let l = c .before .before .before .before .loop in
+    omega (arith, arrow-room s (l .j) (sym (c .before .starts-with .ensures) ∙ c .if1 .taken))
 
 returns : tie.Need-returns Inv-loop μ-loop
-returns c = let s = now (c .before .before .before .before .before .before .args .html) in let l = c .before .before .before .before .loop in let h = sym (c .before .starts-with .ensures) ∙ c .if1 .taken in (sym (closed-here s (l .j) (c .before .before .before .loop-test .taken) h) ∙ l .inv .0, (omega arith, arrow-room s (l .j) h))
+returns c =
+    let s = now (c .before .before .before .before .before .before .args .html) in
+    let l = c .before .before .before .before .loop in
+    let h = sym (c .before .starts-with .ensures) ∙ c .if1 .taken in
+    (sym (closed-here s (l .j) (c .before .before .before .loop-test .taken) h) ∙ l .inv .0, (omega arith, arrow-room s (l .j) h))
 
 add-j : tie.Need-add-j Inv-loop μ-loop
 add-j c = search needs
@@ -42,10 +49,16 @@ loop-less : tie.Need-loop-less Inv-loop μ-loop
 loop-less c = search needs
 
 loop-again : tie.Need-loop-again Inv-loop μ-loop
-loop-again c = let s = now (c .before .before .before .before .before .before .args .html) in let l = c .before .before .before .before .loop in (sym (closed-next s (l .j) (c .before .before .before .loop-test .taken) (sym (c .before .starts-with .ensures) ∙ c .if1 .left)) ∙ l .inv .0, (omega arith, omega arith))
+loop-again c =
+    let s = now (c .before .before .before .before .before .before .args .html) in
+    let l = c .before .before .before .before .loop in
+    (sym (closed-next s (l .j) (c .before .before .before .loop-test .taken) (sym (c .before .starts-with .ensures) ∙ c .if1 .left)) ∙ l .inv .0, (omega arith, omega arith))
 
 returns-2 : tie.Need-returns-2 Inv-loop μ-loop
-returns-2 c = let s = now (c .before .before .before .args .html) in let l = c .before .loop in (sym (closed-past s (l .j) (c .loop-test .left)) ∙ l .inv .0, (omega arith, omega arith))
+returns-2 c =
+    let s = now (c .before .before .before .args .html) in
+    let l = c .before .loop in
+    (sym (closed-past s (l .j) (c .loop-test .left)) ∙ l .inv .0, (omega arith, omega arith))
 
 pub comment-end-spec : {M : Type 1} → statement M
 comment-end-spec =

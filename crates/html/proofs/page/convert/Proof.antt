@@ -27,37 +27,69 @@ new-requires : tie.Need-new-requires Inv-loop μ-loop
 new-requires c κs = search needs
 
 loop-holds : tie.Need-loop-holds Inv-loop μ-loop
-loop-holds c = (going-new (now (c .before .before .before .args .html)) (now (c .before .before .before .args .out)) _ (c .new .ensures _) (c .before .before .before .pre .1), refl)
+loop-holds c =
+    (going-new (now (c .before .before .before .args .html)) (now (c .before .before .before .args .out)) _ (c .new .ensures _) (c .before .before .before .pre .1), refl)
 
 same-length : tie.Need-same-length Inv-loop μ-loop
 same-length c = search needs
 
 returns : tie.Need-returns Inv-loop μ-loop
 unfolding tagged
-returns c = let a = c .before .before .before .before .before .before .before .args in let l = c .before .before .before .loop in let h = now (a .html) in let g = l .inv .0 in (going-full h (l .out) (l .c) (l .at) g (c .if1 .taken), λ e. omega (arith, len-most h (l .out) (l .c) (l .at) g, l .inv .1, c .before .before .before .before .before .before .before .pre .0))
+returns c =
+    let a = c .before .before .before .before .before .before .before .args in
+    let l = c .before .before .before .loop in
+    let h = now (a .html) in
+    let g = l .inv .0 in
+    (going-full h (l .out) (l .c) (l .at) g (c .if1 .taken), λ e. omega (arith, len-most h (l .out) (l .c) (l .at) g, l .inv .1, c .before .before .before .before .before .before .before .pre .0))
 
 turn-requires : tie.Need-turn-requires Inv-loop μ-loop
-turn-requires c κs = let a = c .before .before .before .before .before .before .before .before .args in let l = c .before .before .before .before .loop in let h = now (a .html) in let g = l .inv .0 in ((c .before .before .before .loop-test .taken, g .valid), (few-lists h (l .out) (l .c) (l .at) g, (omega (arith, c .before .if1 .left, l .inv .1, c .before .before .before .before .before .before .before .before .pre .0), omega (arith, small-number h (l .out) (l .c) (l .at) g, c .before .before .before .loop-test .taken, c .before .before .before .before .before .before .before .before .good))))
+turn-requires c κs =
+    let a = c .before .before .before .before .before .before .before .before .args in
+    let l = c .before .before .before .before .loop in
+    let h = now (a .html) in
+    let g = l .inv .0 in
+    ((c .before .before .before .loop-test .taken, g .valid), (few-lists h (l .out) (l .c) (l .at) g, (omega (arith, c .before .if1 .left, l .inv .1, c .before .before .before .before .before .before .before .before .pre .0), omega (arith, small-number h (l .out) (l .c) (l .at) g, c .before .before .before .loop-test .taken, c .before .before .before .before .before .before .before .before .good))))
 
 same-length-2 : tie.Need-same-length-2 Inv-loop μ-loop
 same-length-2 c = search needs
 
 returns-2 : tie.Need-returns-2 Inv-loop μ-loop
 unfolding tagged
-returns-2 c = let a = c .before .before .before .before .before .before .before .before .before .before .before .before .before .before .args in let l = c .before .before .before .before .before .before .before .before .before .before .loop in let h = now (a .html) in let g = l .inv .0 in let n = not-true (c .before .before .before .before .before .turn .result .ok) (c .if2 .taken) in (going-refused h (l .out) (l .c) (l .at) g (c .before .before .before .before .before .before .before .before .before .loop-test .taken) (c .before .before .before .before .before .before .before .if1 .left) (c .before .before .before .before .before .turn .result) _ (c .before .before .before .before .before .turn .ensures .0) n, λ e. let z : _≡_ {A = ℕ} 0 1 = cc in absurd (omega arith))
+returns-2 c =
+    let a = c .before .before .before .before .before .before .before .before .before .before .before .before .before .before .args in
+    let l = c .before .before .before .before .before .before .before .before .before .before .loop in
+    let h = now (a .html) in
+    let g = l .inv .0 in
+    let n = not-true (c .before .before .before .before .before .turn .result .ok) (c .if2 .taken) in
+    (going-refused h (l .out) (l .c) (l .at) g (c .before .before .before .before .before .before .before .before .before .loop-test .taken) (c .before .before .before .before .before .before .before .if1 .left) (c .before .before .before .before .before .turn .result) _ (c .before .before .before .before .before .turn .ensures .0) n, λ e. let z : _≡_ {A = ℕ} 0 1 = cc in absurd (omega arith))
 
 loop-less : tie.Need-loop-less Inv-loop μ-loop
-loop-less c = let a = c .before .before .before .before .before .before .before .before .before .before .before .before .before .before .args in let l = c .before .before .before .before .before .before .before .before .before .before .loop in let h = now (a .html) in let g = l .inv .0 in omega (arith, c .before .before .before .before .before .turn .ensures .1 .0, c .before .before .before .before .before .turn .ensures .1 .1)
+loop-less c =
+    let a = c .before .before .before .before .before .before .before .before .before .before .before .before .before .before .args in
+    let l = c .before .before .before .before .before .before .before .before .before .before .loop in
+    let h = now (a .html) in
+    let g = l .inv .0 in
+    omega (arith, c .before .before .before .before .before .turn .ensures .1 .0, c .before .before .before .before .before .turn .ensures .1 .1)
 
 loop-again : tie.Need-loop-again Inv-loop μ-loop
-loop-again c = let a = c .before .before .before .before .before .before .before .before .before .before .before .before .before .before .args in let l = c .before .before .before .before .before .before .before .before .before .before .loop in let h = now (a .html) in let g = l .inv .0 in (going-next h (l .out) (l .c) (l .at) g (c .before .before .before .before .before .before .before .before .before .loop-test .taken) (c .before .before .before .before .before .before .before .if1 .left) (c .before .before .before .before .before .turn .result) _ (c .before .before .before .before .before .turn .ensures .0) (not-false (c .before .before .before .before .before .turn .result .ok) (c .if2 .left)) (c .before .before .before .before .before .turn .ensures .1 .0) (c .before .before .before .before .before .turn .ensures .1 .1) (omega (arith, c .before .before .before .before .before .before .before .before .before .loop-test .taken, c .before .before .before .before .before .before .before .before .before .before .before .before .before .before .good)), search needs)
+loop-again c =
+    let a = c .before .before .before .before .before .before .before .before .before .before .before .before .before .before .args in
+    let l = c .before .before .before .before .before .before .before .before .before .before .loop in
+    let h = now (a .html) in
+    let g = l .inv .0 in
+    (going-next h (l .out) (l .c) (l .at) g (c .before .before .before .before .before .before .before .before .before .loop-test .taken) (c .before .before .before .before .before .before .before .if1 .left) (c .before .before .before .before .before .turn .result) _ (c .before .before .before .before .before .turn .ensures .0) (not-false (c .before .before .before .before .before .turn .result .ok) (c .if2 .left)) (c .before .before .before .before .before .turn .ensures .1 .0) (c .before .before .before .before .before .turn .ensures .1 .1) (omega (arith, c .before .before .before .before .before .before .before .before .before .loop-test .taken, c .before .before .before .before .before .before .before .before .before .before .before .before .before .before .good)), search needs)
 
 same-length-3 : tie.Need-same-length-3 Inv-loop μ-loop
 same-length-3 c = search needs
 
 returns-3 : tie.Need-returns-3 Inv-loop μ-loop
 unfolding tagged
-returns-3 c = let a = c .before .before .before .before .before .args in let l = c .before .loop in let h = now (a .html) in let g = l .inv .0 in (going-end h (l .out) (l .c) (l .at) g (c .loop-test .left), λ e. omega (arith, len-most h (l .out) (l .c) (l .at) g, l .inv .1, c .before .before .before .before .before .pre .0))
+returns-3 c =
+    let a = c .before .before .before .before .before .args in
+    let l = c .before .loop in
+    let h = now (a .html) in
+    let g = l .inv .0 in
+    (going-end h (l .out) (l .c) (l .at) g (c .loop-test .left), λ e. omega (arith, len-most h (l .out) (l .c) (l .at) g, l .inv .1, c .before .before .before .before .before .pre .0))
 
 pub convert-spec : {M : Type 1} → statement M
 convert-spec =

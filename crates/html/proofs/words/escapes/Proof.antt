@@ -18,7 +18,10 @@ special-requires : tie.Need-special-requires
 special-requires c κs = search needs
 
 returns : tie.Need-returns
-returns c = let a = c .before .before .before .args in let o = out-of (a .n) (now (a .out)) in escape-special (a .first) (a .c) o (sym (c .before .special .ensures) ∙ c .if1 .taken)
+returns c =
+    let a = c .before .before .before .args in
+    let o = out-of (a .n) (now (a .out)) in
+    escape-special (a .first) (a .c) o (sym (c .before .special .ensures) ∙ c .if1 .taken)
 
 opens-requires : tie.Need-opens-requires
 opens-requires c κs = search needs
@@ -27,19 +30,33 @@ line-start-requires : tie.Need-line-start-requires
 line-start-requires c κs = search needs
 
 returns-2 : tie.Need-returns-2
-returns-2 c = let a = c .before .before .before .before .before .before .args in let o = out-of (a .n) (now (a .out)) in c .line-start .ensures ∙ escape-opens (a .first) (a .c) o (sym (c .before .before .before .before .special .ensures) ∙ c .before .before .before .if1 .left) (sym (c .before .before .opens .ensures) ∙ c .before .if2 .taken)
+returns-2 c =
+    let a = c .before .before .before .before .before .before .args in
+    let o = out-of (a .n) (now (a .out)) in
+    c .line-start .ensures
+    ∙ escape-opens (a .first) (a .c) o (sym (c .before .before .before .before .special .ensures) ∙ c .before .before .before .if1 .left) (sym (c .before .before .opens .ensures) ∙ c .before .if2 .taken)
 
 returns-3 : tie.Need-returns-3
-returns-3 c = let a = c .before .before .before .before .before .before .args in let o = out-of (a .n) (now (a .out)) in escape-other (a .first) (a .c) o (sym (c .before .before .before .before .special .ensures) ∙ c .before .before .before .if1 .left) (sym (c .before .before .opens .ensures) ∙ c .before .if2 .left) (c .if3 .taken)
+returns-3 c =
+    let a = c .before .before .before .before .before .before .args in
+    let o = out-of (a .n) (now (a .out)) in
+    escape-other (a .first) (a .c) o (sym (c .before .before .before .before .special .ensures) ∙ c .before .before .before .if1 .left) (sym (c .before .before .opens .ensures) ∙ c .before .if2 .left) (c .if3 .taken)
 
 ends-digit-requires : tie.Need-ends-digit-requires
 ends-digit-requires c κs = search needs
 
 returns-4 : tie.Need-returns-4
-returns-4 c = let a = c .before .before .before .before .before .before .before .before .args in let o = out-of (a .n) (now (a .out)) in c .ends-digit .ensures ∙ escape-first (a .first) (a .c) o (sym (c .before .before .before .before .before .before .special .ensures) ∙ c .before .before .before .before .before .if1 .left) (sym (c .before .before .before .before .opens .ensures) ∙ c .before .before .before .if2 .left) (c .before .before .if3 .left) (c .before .if4 .taken)
+returns-4 c =
+    let a = c .before .before .before .before .before .before .before .before .args in
+    let o = out-of (a .n) (now (a .out)) in
+    c .ends-digit .ensures
+    ∙ escape-first (a .first) (a .c) o (sym (c .before .before .before .before .before .before .special .ensures) ∙ c .before .before .before .before .before .if1 .left) (sym (c .before .before .before .before .opens .ensures) ∙ c .before .before .before .if2 .left) (c .before .before .if3 .left) (c .before .if4 .taken)
 
 returns-5 : tie.Need-returns-5
-returns-5 c = let a = c .before .before .before .before .before .before .before .args in let o = out-of (a .n) (now (a .out)) in escape-later (a .first) (a .c) o (sym (c .before .before .before .before .before .special .ensures) ∙ c .before .before .before .before .if1 .left) (sym (c .before .before .before .opens .ensures) ∙ c .before .before .if2 .left) (c .before .if3 .left) (c .if4 .left)
+returns-5 c =
+    let a = c .before .before .before .before .before .before .before .args in
+    let o = out-of (a .n) (now (a .out)) in
+    escape-later (a .first) (a .c) o (sym (c .before .before .before .before .before .special .ensures) ∙ c .before .before .before .before .if1 .left) (sym (c .before .before .before .opens .ensures) ∙ c .before .before .if2 .left) (c .before .if3 .left) (c .if4 .left)
 
 pub escapes-spec : {M : Type 1} → statement M
 escapes-spec =

@@ -18,7 +18,8 @@ line-start-requires c κs = search needs
 
 returns : tie.Need-returns
 unfolding pen-state paused
-returns c = (λ s. ap (λ (b : Bool). with-out (out-of (c .before .before .args .self .len) (now (c .before .before .args .out))) (not b) s) (c .line-start .ensures), refl)
+returns c =
+    (λ s. ap (λ (b : Bool). with-out (out-of (c .before .before .args .self .len) (now (c .before .before .args .out))) (not b) s) (c .line-start .ensures), refl)
 
 pub pause-spec : {M : Type 1} → statement M
 pause-spec = tie.close (tie.spec line-start-requires returns)

@@ -1,0 +1,27 @@
+-- `Converter::row` meets its contract.
+-- Assumes nothing.
+use mathlib.Core.Path.{_≡_, refl, sym, ap, _∙_}
+use Rattle.html.specs.State.{tag}
+use borrow.Author.Needs.{needs}
+use Rattle.html.proofs.Converter.row.Statement.{statement}
+use Rattle.html.proofs.Converter.row.Tie as tie
+use Rattle.html.proofs.Converter.row.Reads as reads
+use Rattle.html.proofs.Converter.row.Lts as lts
+use Rattle.html.proofs.Converter.newline.Reads as newline-reads
+
+newline-requires : tie.Need-newline-requires
+newline-requires c κs = search needs
+
+same-length : tie.Need-same-length
+same-length c = search needs
+
+returns : tie.Need-returns
+unfolding tag
+returns c = rw (c .before .before .before .before .if1 .taken) (c .before .before .newline .ensures)
+
+returns-2 : tie.Need-returns-2
+unfolding tag
+returns-2 c = rw (c .if1 .left)
+
+pub row-spec : {M : Type 1} → statement M
+row-spec = tie.close (tie.spec newline-requires same-length returns returns-2)

@@ -1,0 +1,169 @@
+-- `ink` meets its contract: what is left of the text makes the same state.
+-- Assumes nothing.
+use borrow.Author.Needs.{needs}
+use mathlib.Core.Path.{_≡_, refl, sym, ap, _∙_}
+use native.Mathlib.Omega.{arith}
+use denote.Ref.{now}
+use Prim.Native.Nat.{ℕ, _+_, _-_, _*_, _≤_, _<_}
+use mathlib.Core.Bool.{Bool}
+use lib.ListN.{length, getD}
+use Rattle.html.specs.State.{State, new, with-pre, put-all}
+use Rattle.html.specs.Pen.{pen-state, blank, Unescaped}
+use Rattle.text.specs.Utf8.{utf8, chars}
+use Rattle.reference.specs.Unescape.{unescape}
+use Rattle.html.proofs.TextLaws.{Inking, pending-most, some-size, ink-room, ink-pause, ink-write, ink-done, piece, piece-ascii, plain-ascii, plain-not-and, plain-not-blank}
+use Rattle.html.proofs.words.ink.Statement.{statement}
+use Rattle.html.proofs.words.ink.Tie as tie
+use Rattle.html.proofs.words.ink.Reads as reads
+use Rattle.html.proofs.words.ink.Lts as lts
+use Rattle.html.proofs.words.Pen.letter.Reads as letter-reads
+use Rattle.html.proofs.words.Pen.pause.Reads as pause-reads
+use Rattle.html.proofs.words.Pen.write.Reads as write-reads
+use Rattle.html.proofs.words.blank.Reads as blank-reads
+use Rattle.html.proofs.words.plain.Reads as plain-reads
+use Rattle.html.proofs.words.unescaped.Reads as unescaped-reads
+
+abbrev Inv-loop : tie.InvT-loop
+Inv-loop out₀ raw pre p₀ i₀ out p i =
+    ((s : State) → s .pre ≡ pre → Inking raw s (put-all (p₀ .first) (unescape 0 (chars raw)) (pen-state s p₀ out₀)) (p₀ .len) out p i) × (length out ≡ length out₀)
+
+abbrev μ-loop : tie.MeasureT-loop
+μ-loop out₀ raw pre p₀ i₀ out p i = length raw - i
+
+loop-holds : tie.Need-loop-holds Inv-loop μ-loop
+loop-holds c =
+    (λ s h. record { same = refl; valid = c .before .before .pre .1; bound = omega arith; room = omega (arith, pending-most (c .before .before .args .pen .space)) }, refl)
+
+shared-slice-read-b : tie.Need-shared-slice-read-b Inv-loop μ-loop
+shared-slice-read-b c = c .before .loop-test .taken
+
+plain-requires : tie.Need-plain-requires Inv-loop μ-loop
+plain-requires c κs = search needs
+
+letter-requires : tie.Need-letter-requires Inv-loop μ-loop
+letter-requires c κs =
+    let a = c .before .before .before .before .before .before .before .before .args in
+    let l = c .before .before .before .before .before .loop in
+    let raw = now (a .raw) in
+    let b = getD raw (l .i) 0 in
+    let y = sym (c .before .before .plain .ensures) ∙ c .before .if1 .taken in
+    let u = piece b (l .i + 1) in
+    let v : Unescaped raw (l .i) u = piece-ascii raw (l .i) (c .before .before .before .before .loop-test .taken) (l .inv .0 (with-pre (a .pre) new) refl .valid) (plain-ascii b y) (plain-not-and b y) in
+    let s = with-pre (a .pre) new in
+    let h = refl in
+    (omega (arith, ink-room raw s (put-all (a .pen .first) (unescape 0 (chars raw)) (pen-state s (a .pen) (now (a .out)))) (a .pen .len) (l .out) (l .p) (l .i) (l .inv .0 s h) u v, some-size raw s (put-all (a .pen .first) (unescape 0 (chars raw)) (pen-state s (a .pen) (now (a .out)))) (a .pen .len) (l .out) (l .p) (l .i) (l .inv .0 s h) u v, l .inv .1, c .before .before .before .before .before .before .before .before .pre .0), y)
+
+add-i : tie.Need-add-i Inv-loop μ-loop
+add-i c =
+    omega (arith, c .before .before .before .before .before .before .before .loop-test .taken, c .before .before .before .before .before .before .before .before .before .before .before .good)
+
+loop-less : tie.Need-loop-less Inv-loop μ-loop
+loop-less c = omega (arith, c .before .before .before .before .before .before .before .loop-test .taken)
+
+loop-again : tie.Need-loop-again Inv-loop μ-loop
+loop-again c =
+    let a = c .before .before .before .before .before .before .before .before .before .before .before .args in
+    let l = c .before .before .before .before .before .before .before .before .loop in
+    let raw = now (a .raw) in
+    let b = getD raw (l .i) 0 in
+    let y = sym (c .before .before .before .before .before .plain .ensures) ∙ c .before .before .before .before .if1 .taken in
+    let u = piece b (l .i + 1) in
+    let v : Unescaped raw (l .i) u = piece-ascii raw (l .i) (c .before .before .before .before .before .before .before .loop-test .taken) (l .inv .0 (with-pre (a .pre) new) refl .valid) (plain-ascii b y) (plain-not-and b y) in
+    (λ s h. ink-write raw s (put-all (a .pen .first) (unescape 0 (chars raw)) (pen-state s (a .pen) (now (a .out)))) (a .pen .len) (l .out) (l .p) (l .i) (l .inv .0 s h) u v _ _ (plain-not-blank b y (s .pre)) (c .before .before .letter .ensures .0 s) (c .before .before .letter .ensures .1), search needs)
+
+unescaped-requires : tie.Need-unescaped-requires Inv-loop μ-loop
+unescaped-requires c κs =
+    (c .before .before .before .loop-test .taken, c .before .before .before .before .loop .inv .0 (with-pre (c .before .before .before .before .before .before .before .args .pre) new) refl .valid)
+
+blank-requires : tie.Need-blank-requires Inv-loop μ-loop
+blank-requires c κs = search needs
+
+pause-requires : tie.Need-pause-requires Inv-loop μ-loop
+pause-requires c κs =
+    let a = c .before .before .before .before .before .before .before .before .before .before .before .args in
+    let l = c .before .before .before .before .before .before .before .before .loop in
+    let raw = now (a .raw) in
+    let u = c .before .before .before .unescaped .result in
+    let s = with-pre (a .pre) new in
+    let h = refl in
+    omega (arith, ink-room raw s (put-all (a .pen .first) (unescape 0 (chars raw)) (pen-state s (a .pen) (now (a .out)))) (a .pen .len) (l .out) (l .p) (l .i) (l .inv .0 s h) u (c .before .before .before .unescaped .ensures), l .inv .1, c .before .before .before .before .before .before .before .before .before .before .before .pre .0)
+
+loop-less-2 : tie.Need-loop-less-2 Inv-loop μ-loop
+loop-less-2 c =
+    let a = c .before .before .before .before .before .before .before .before .before .before .before .before .args in
+    let l = c .before .before .before .before .before .before .before .before .before .loop in
+    let raw = now (a .raw) in
+    let u = c .before .before .before .before .unescaped .result in
+    let s = with-pre (a .pre) new in
+    let h = refl in
+    omega (arith, some-size raw s (put-all (a .pen .first) (unescape 0 (chars raw)) (pen-state s (a .pen) (now (a .out)))) (a .pen .len) (l .out) (l .p) (l .i) (l .inv .0 s h) u (c .before .before .before .before .unescaped .ensures), c .before .before .before .before .unescaped .ensures .size, c .before .before .before .before .unescaped .ensures .bound)
+
+loop-again-2 : tie.Need-loop-again-2 Inv-loop μ-loop
+loop-again-2 c =
+    let a = c .before .before .before .before .before .before .before .before .before .before .before .before .args in
+    let l = c .before .before .before .before .before .before .before .before .before .loop in
+    let raw = now (a .raw) in
+    let u = c .before .before .before .before .unescaped .result in
+    (λ s h. ink-pause raw s (put-all (a .pen .first) (unescape 0 (chars raw)) (pen-state s (a .pen) (now (a .out)))) (a .pen .len) (l .out) (l .p) (l .i) (l .inv .0 s h) u (c .before .before .before .before .unescaped .ensures) _ (ap (λ (b : Bool). blank b (u .code)) h ∙ sym (c .before .before .before .blank .ensures) ∙ c .before .before .if2 .taken) (c .pause .ensures .0 s) (c .pause .ensures .1), l .inv .1)
+
+write-requires : tie.Need-write-requires Inv-loop μ-loop
+write-requires c κs =
+    let a = c .before .before .before .before .before .before .before .before .before .before .before .args in
+    let l = c .before .before .before .before .before .before .before .before .loop in
+    let raw = now (a .raw) in
+    let u = c .before .before .before .unescaped .result in
+    let s = with-pre (a .pre) new in
+    let h = refl in
+    (omega (arith, ink-room raw s (put-all (a .pen .first) (unescape 0 (chars raw)) (pen-state s (a .pen) (now (a .out)))) (a .pen .len) (l .out) (l .p) (l .i) (l .inv .0 s h) u (c .before .before .before .unescaped .ensures), l .inv .1, c .before .before .before .before .before .before .before .before .before .before .before .pre .0), c .before .before .before .unescaped .ensures .scalar)
+
+loop-less-3 : tie.Need-loop-less-3 Inv-loop μ-loop
+loop-less-3 c =
+    let a = c .before .before .before .before .before .before .before .before .before .before .before .before .before .before .args in
+    let l = c .before .before .before .before .before .before .before .before .before .before .before .loop in
+    let raw = now (a .raw) in
+    let u = c .before .before .before .before .before .before .unescaped .result in
+    let s = with-pre (a .pre) new in
+    let h = refl in
+    omega (arith, some-size raw s (put-all (a .pen .first) (unescape 0 (chars raw)) (pen-state s (a .pen) (now (a .out)))) (a .pen .len) (l .out) (l .p) (l .i) (l .inv .0 s h) u (c .before .before .before .before .before .before .unescaped .ensures), c .before .before .before .before .before .before .unescaped .ensures .size, c .before .before .before .before .before .before .unescaped .ensures .bound)
+
+loop-again-3 : tie.Need-loop-again-3 Inv-loop μ-loop
+loop-again-3 c =
+    let a = c .before .before .before .before .before .before .before .before .before .before .before .before .before .before .args in
+    let l = c .before .before .before .before .before .before .before .before .before .before .before .loop in
+    let raw = now (a .raw) in
+    let u = c .before .before .before .before .before .before .unescaped .result in
+    (λ s h. ink-write raw s (put-all (a .pen .first) (unescape 0 (chars raw)) (pen-state s (a .pen) (now (a .out)))) (a .pen .len) (l .out) (l .p) (l .i) (l .inv .0 s h) u (c .before .before .before .before .before .before .unescaped .ensures) _ _ (ap (λ (b : Bool). blank b (u .code)) h ∙ sym (c .before .before .before .before .before .blank .ensures) ∙ c .before .before .before .before .if2 .left) (c .before .before .write .ensures .0 s h) (c .before .before .write .ensures .1), search needs)
+
+same-length : tie.Need-same-length Inv-loop μ-loop
+same-length c = search needs
+
+returns : tie.Need-returns Inv-loop μ-loop
+returns c =
+    let a = c .before .before .before .before .args in
+    let l = c .before .loop in
+    let raw = now (a .raw) in
+    λ s h. ink-done raw s (put-all (a .pen .first) (unescape 0 (chars raw)) (pen-state s (a .pen) (now (a .out)))) (a .pen .len) (l .out) (l .p) (l .i) (l .inv .0 s h) (c .loop-test .left)
+
+pub ink-spec : {M : Type 1} → statement M
+ink-spec =
+    tie.close
+    (tie.spec
+    Inv-loop
+    μ-loop
+    loop-holds
+    shared-slice-read-b
+    plain-requires
+    letter-requires
+    add-i
+    loop-less
+    loop-again
+    unescaped-requires
+    blank-requires
+    pause-requires
+    loop-less-2
+    loop-again-2
+    write-requires
+    loop-less-3
+    loop-again-3
+    same-length
+    returns)
