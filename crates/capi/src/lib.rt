@@ -4,9 +4,8 @@ ghost use Rattle.text.specs.Utf8.{encode};
 ghost use Rattle.records.specs.Answers.{block-answer, marker-answer, span-answer, text-answer};
 ghost use lib.ListN.{length};
 ghost use Rattle.html.specs.Calls.{html-to-markdown-call};
-ghost use Rattle.html.specs.Answers.{result-after, WorkKept};
+ghost use Rattle.text.specs.Outcome.{result-after, work-kept};
 ghost use Rattle.markdown.specs.Calls.{blocks-call};
-ghost use Rattle.markdown.specs.Answers.{result-after as records-after, work-kept};
 ghost use Rattle.sheet.specs.Calls.{sheet-call};
 ghost use Rattle.capi.specs.Values.{bit, page-struct, markdown-struct, written-struct, block-struct, span-struct, sheet-struct, PartIs};
 use records::walker::BlockAnswer;
@@ -51,7 +50,7 @@ fn page_written(a: html::Answer) -> Written
 pub extern "C" fn rn_html_to_markdown(page: &[u8], work: &mut [u8], result: &mut [u8]) -> Written
     ensures { λ r. ⌜ r ≡ written-struct (html-to-markdown-call (now (page .entry)) (length (now (work .entry))) (length (now (result .entry)))) ⌝ }
     ensures { λ r. ⌜ now (result .exit) ≡ result-after (html-to-markdown-call (now (page .entry)) (length (now (work .entry))) (length (now (result .entry)))) (now (result .entry)) ⌝ }
-    ensures { λ r. ⌜ WorkKept (html-to-markdown-call (now (page .entry)) (length (now (work .entry))) (length (now (result .entry)))) (now (work .entry)) (now (work .exit)) ⌝ }
+    ensures { λ r. ⌜ work-kept (html-to-markdown-call (now (page .entry)) (length (now (work .entry))) (length (now (result .entry)))) (now (work .exit)) ≡ work-kept (html-to-markdown-call (now (page .entry)) (length (now (work .entry))) (length (now (result .entry)))) (now (work .entry)) ⌝ }
 {
     let answer = html::html_to_markdown(page, work, result);
     page_written(answer)
@@ -87,7 +86,7 @@ fn markdown_written(a: markdown::Answer) -> Written
 #[no_mangle]
 pub extern "C" fn rn_blocks(markdown: &[u8], work: &mut [u8], result: &mut [u8]) -> Written
     ensures { λ r. ⌜ (r ≡ written-struct (blocks-call (now (markdown .entry)) (length (now (work .entry))) (length (now (result .entry)))))
-        × ((now (result .exit) ≡ records-after (blocks-call (now (markdown .entry)) (length (now (work .entry))) (length (now (result .entry)))) (now (result .entry)))
+        × ((now (result .exit) ≡ result-after (blocks-call (now (markdown .entry)) (length (now (work .entry))) (length (now (result .entry)))) (now (result .entry)))
         × (work-kept (blocks-call (now (markdown .entry)) (length (now (work .entry))) (length (now (result .entry)))) (now (work .exit))
         ≡ work-kept (blocks-call (now (markdown .entry)) (length (now (work .entry))) (length (now (result .entry)))) (now (work .entry)))) ⌝ }
 {

@@ -15,7 +15,7 @@ use Rattle.text.specs.Words.{if_then_else_, _>>=_, case}
 use Rattle.text.specs.Utf8.{Scalars, utf8, encode, size, chars, is-utf8, decode}
 use Rattle.text.specs.Trim.{trim}
 use Rattle.text.specs.Cut.{cut}
-use Rattle.text.specs.Outcome.{Outcome, refused, wrote, number, returned, front}
+use Rattle.text.specs.Outcome.{Outcome, refused, wrote, number, returned, front, result-after, work-kept}
 use Rattle.text.proofs.Tests.{on}
 use Rattle.text.proofs.Laws.{utf8-size, decode-true, decode-false, scalars-true, chars-encode, encode-chars}
 use Rattle.text.proofs.CutLaws.{take-cut}
@@ -24,7 +24,7 @@ use Rattle.html.specs.State.{State, new}
 use Rattle.html.specs.Page.{loop, finish, html-to-markdown}
 use Rattle.html.specs.Struct.{state-of, out-of, written, tagged}
 use Rattle.html.specs.Calls.{converted, with-buffers, html-to-markdown-call}
-use Rattle.html.specs.Answers.{answer-number, answer-length, result-after, WorkKept}
+use Rattle.html.specs.Answers.{answer-number, answer-length}
 use Rattle.html.specs.declared.Answer.{Answer}
 use Rattle.html.specs.declared.Tagged.{Tagged}
 use Rattle.html.specs.declared.Converter.{Converter}
@@ -135,8 +135,8 @@ call-1 page w r u = rw (decode-false page u)
 
 -- what a call promises, by the outcome that it has
 pub promised : (o p : Outcome) (a : Answer) (result result' work work' : List ℕ) → o ≡ p → answer-number a ≡ number p → answer-length a ≡ returned p
-    → result' ≡ result-after p result → WorkKept p work work'
-    → ((answer-number a ≡ number o) × (answer-length a ≡ returned o)) × ((result' ≡ result-after o result) × WorkKept o work work')
+    → result' ≡ result-after p result → work-kept p work' ≡ work-kept p work
+    → ((answer-number a ≡ number o) × (answer-length a ≡ returned o)) × ((result' ≡ result-after o result) × (work-kept o work' ≡ work-kept o work))
 promised o p a result result' work work' e x y z v = rw e ((x, y), (z, v))
 
 -- what is copied out

@@ -1,9 +1,6 @@
--- What the code's `Answer` says: document 01's number and length of each case, and what a call leaves in its buffers.
+-- What the code's `Answer` says: document 01's number and length of each case.
 -- Assumes nothing.
-use Prim.Native.Nat.{ℕ, _≤_}
-use mathlib.Core.List.{List}
-use mathlib.Core.Path.{_≡_}
-use Rattle.text.specs.Outcome.{Outcome, refused, wrote, number, front}
+use Prim.Native.Nat.{ℕ}
 use Rattle.html.specs.declared.Answer.{Answer}
 use Rattle.html.specs.declared.Answer.the-variants.{Length, NotUtf8, SmallWork, SmallResult, TooManyLists}
 
@@ -20,12 +17,3 @@ answer-length NotUtf8 = 0
 answer-length SmallWork = 0
 answer-length SmallResult = 0
 answer-length TooManyLists = 0
-
--- the result buffer: as before after a refusal, and its first bytes replaced after success
-abbrev pub result-after : Outcome → List ℕ → List ℕ
-result-after (refused n) buffer = buffer
-result-after (wrote bs) buffer = front bs buffer
-
--- the work buffer is as before after 1, 2 and 3
-abbrev pub WorkKept : Outcome → List ℕ → List ℕ → Type 0
-WorkKept o before after = 1 ≤ number o → number o ≤ 3 → after ≡ before

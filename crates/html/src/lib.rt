@@ -4,10 +4,10 @@ ghost use Prim.Native.Nat.{ℕ};
 ghost use mathlib.Core.List.{List};
 ghost use Rattle.html.specs.State.{new};
 ghost use lib.ListN.{length};
-ghost use Rattle.text.specs.Outcome.{number, returned};
+ghost use Rattle.text.specs.Outcome.{number, returned, result-after, work-kept};
 ghost use Rattle.html.specs.Struct.{state-of};
 ghost use Rattle.html.specs.Calls.{html-to-markdown-call};
-ghost use Rattle.html.specs.Answers.{answer-number, answer-length, result-after, WorkKept};
+ghost use Rattle.html.specs.Answers.{answer-number, answer-length};
 
 mod finish;
 mod names;
@@ -114,7 +114,7 @@ impl Converter {
 pub fn html_to_markdown(page: &[u8], work: &mut [u8], result: &mut [u8]) -> Answer
     ensures { λ r. ⌜ (answer-number r ≡ number (html-to-markdown-call (now (page .entry)) (length (now (work .entry))) (length (now (result .entry))))) × (answer-length r ≡ returned (html-to-markdown-call (now (page .entry)) (length (now (work .entry))) (length (now (result .entry))))) ⌝ }
     ensures { λ r. ⌜ now (result .exit) ≡ result-after (html-to-markdown-call (now (page .entry)) (length (now (work .entry))) (length (now (result .entry)))) (now (result .entry)) ⌝ }
-    ensures { λ r. ⌜ WorkKept (html-to-markdown-call (now (page .entry)) (length (now (work .entry))) (length (now (result .entry)))) (now (work .entry)) (now (work .exit)) ⌝ }
+    ensures { λ r. ⌜ work-kept (html-to-markdown-call (now (page .entry)) (length (now (work .entry))) (length (now (result .entry)))) (now (work .exit)) ≡ work-kept (html-to-markdown-call (now (page .entry)) (length (now (work .entry))) (length (now (result .entry)))) (now (work .entry)) ⌝ }
 {
     if !text::is_utf8(page) {
         return Answer::NotUtf8;

@@ -8,13 +8,13 @@ use borrow.Author.Tests.{lt-ltb, le-ltb}
 use lib.ListN.{length, replicate}
 use lib.Seq.{sets}
 use Rattle.text.specs.Utf8.{chars, is-utf8, decode}
-use Rattle.text.specs.Outcome.{Outcome, refused, wrote, number, returned, front}
+use Rattle.text.specs.Outcome.{Outcome, refused, wrote, number, returned, front, result-after, work-kept}
 use Rattle.text.proofs.Laws.{decode-true, decode-false}
 use Rattle.records.specs.Format.{encode-blocks}
 use Rattle.records.proofs.Stores.{sets-front}
 use Rattle.markdown.specs.Blocks.{blocks}
 use Rattle.markdown.specs.Calls.{recorded, with-buffers, blocks-call}
-use Rattle.markdown.specs.Answers.{answer-number, answer-length, result-after, work-kept}
+use Rattle.markdown.specs.Answers.{answer-number, answer-length}
 use Rattle.markdown.specs.declared.Answer.{Answer}
 use Rattle.markdown.specs.declared.Answer.the-variants.{Length, NotUtf8, SmallWork, TooLong, SmallResult}
 

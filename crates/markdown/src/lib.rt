@@ -5,11 +5,11 @@ ghost use mathlib.Core.Bool.{true};
 ghost use lib.ListN.{length};
 ghost use lib.Seq.{sets};
 ghost use Rattle.text.specs.Utf8.{chars, is-utf8};
-ghost use Rattle.text.specs.Outcome.{number, returned};
+ghost use Rattle.text.specs.Outcome.{number, returned, result-after, work-kept};
 ghost use Rattle.records.specs.Format.{encode-blocks};
 ghost use Rattle.markdown.specs.Blocks.{blocks};
 ghost use Rattle.markdown.specs.Calls.{blocks-call};
-ghost use Rattle.markdown.specs.Answers.{answer-number, answer-length, result-after, work-kept};
+ghost use Rattle.markdown.specs.Answers.{answer-number, answer-length};
 
 mod lines;
 mod reader;

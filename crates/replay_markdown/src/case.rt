@@ -1,7 +1,7 @@
 // The block reader: the answers are the records of what the Rust's `blocks` reads, made by `tools/replay-data markdown`.
 use markdown::Answer;
 
-pub fn agrees(input: &[u8], want: usize, answer: &[u8]) -> bool {
+pub(crate) fn agrees(input: &[u8], want: usize, answer: &[u8]) -> bool {
     let mut work = [0u8; 393216];
     let mut result = [0u8; 262144];
     match markdown::blocks(input, &mut work, &mut result) {

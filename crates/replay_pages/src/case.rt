@@ -1,7 +1,7 @@
 // The converter: the answers are those of the Rust's `html_to_markdown`, made by `tools/replay-data pages`.
 use html::Answer;
 
-pub fn agrees(page: &[u8], want: usize, answer: &[u8]) -> bool {
+pub(crate) fn agrees(page: &[u8], want: usize, answer: &[u8]) -> bool {
     let mut work = [0u8; 147456];
     let mut result = [0u8; 32000];
     match html::html_to_markdown(page, &mut work, &mut result) {

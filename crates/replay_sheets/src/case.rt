@@ -29,7 +29,7 @@ fn is_word(s: &[u8], n: usize) -> bool {
     check::same(text::front(s, 4), &bytes)
 }
 
-pub fn agrees(page: &[u8], want: usize, answer: &[u8]) -> bool {
+pub(crate) fn agrees(page: &[u8], want: usize, answer: &[u8]) -> bool {
     match sheet::sheet(page) {
         Verdict::Yes { bytes, chars } => {
             is_word(answer, bytes)

@@ -14,12 +14,6 @@ use Rattle.html.proofs.FinishLaws.{page-scalars, cut-small, cut-within,
 use borrow.Author.Needs.{needs}
 use Rattle.html.proofs.html_to_markdown.Statement.{statement}
 use Rattle.html.proofs.html_to_markdown.Tie as tie
-use Rattle.html.proofs.html_to_markdown.Reads as reads
-use Rattle.html.proofs.html_to_markdown.Lts as lts
-use Rattle.html.proofs.finish.finish.Reads as finish-reads
-use Rattle.html.proofs.page.convert.Reads as convert-reads
-use Rattle.html.proofs.page.read_len.Reads as read-len-reads
-use Rattle.text.proofs.is_utf8.Reads as is-utf8-reads
 
 is-utf8-requires : tie.Need-is-utf8-requires
 is-utf8-requires c κs = search needs
@@ -29,7 +23,7 @@ returns c =
     let p = now (c .before .before .before .before .before .args .page) in
     let w = now (c .before .before .before .before .before .args .work) in
     let r = now (c .before .before .before .before .before .args .result) in
-    promised _ _ NotUtf8 r _ w _ (call-1 p (length w) (length r) (sym (c .before .is-utf8 .ensures) ∙ not-true (c .before .is-utf8 .result) (c .if1 .taken))) refl refl refl (λ _ _. refl)
+    promised _ _ NotUtf8 r _ w _ (call-1 p (length w) (length r) (sym (c .before .is-utf8 .ensures) ∙ not-true (c .before .is-utf8 .result) (c .if1 .taken))) refl refl refl refl
 
 read-len-requires : tie.Need-read-len-requires
 read-len-requires c κs = search needs
@@ -64,7 +58,7 @@ returns-2 c =
     let u = sym (c .before .before .before .is-utf8 .ensures) ∙ not-false (c .before .before .before .is-utf8 .result) (c .before .before .if1 .left) in
     let n = c .before .read-len .result in
     let e = c .before .read-len .ensures in
-    promised _ _ SmallWork r _ w _ (call-2 p u n e (length w) (length r) (c .if2 .taken)) refl refl refl (λ _ _. refl)
+    promised _ _ SmallWork r _ w _ (call-2 p u n e (length w) (length r) (c .if2 .taken)) refl refl refl refl
 
 mul-if3 : tie.Need-mul-if3
 mul-if3 c = search needs
@@ -77,7 +71,7 @@ returns-3 c =
     let u = sym (c .before .before .before .before .is-utf8 .ensures) ∙ not-false (c .before .before .before .before .is-utf8 .result) (c .before .before .before .if1 .left) in
     let n = c .before .before .read-len .result in
     let e = c .before .before .read-len .ensures in
-    promised _ _ SmallResult r _ w _ (call-3 p u n e (length w) (length r) (c .before .if2 .left) (c .if3 .taken)) refl refl refl (λ _ _. refl)
+    promised _ _ SmallResult r _ w _ (call-3 p u n e (length w) (length r) (c .before .if2 .left) (c .if3 .taken)) refl refl refl refl
 
 slice-aggregate-convert : tie.Need-slice-aggregate-convert
 slice-aggregate-convert c =
@@ -110,7 +104,7 @@ returns-4 c =
     let u = sym (c .before .before .before .before .before .before .before .before .before .before .before .is-utf8 .ensures) ∙ not-false (c .before .before .before .before .before .before .before .before .before .before .before .is-utf8 .result) (c .before .before .before .before .before .before .before .before .before .before .if1 .left) in
     let n = c .before .before .before .before .before .before .before .before .before .read-len .result in
     let e = c .before .before .before .before .before .before .before .before .before .read-len .ensures in
-    promised _ _ TooManyLists r _ w _ (call-4 p u n e (length w) (length r) (c .before .before .before .before .before .before .before .before .if2 .left) (c .before .before .before .before .before .before .before .if3 .left) (no (c .before .before .before .before .convert .result) _ (not-true (c .before .before .before .before .convert .result .ok) (c .if4 .taken)) ∙ c .before .before .before .before .convert .ensures .0)) refl refl refl (λ a b. absurd (omega arith))
+    promised _ _ TooManyLists r _ w _ (call-4 p u n e (length w) (length r) (c .before .before .before .before .before .before .before .before .if2 .left) (c .before .before .before .before .before .before .before .if3 .left) (no (c .before .before .before .before .convert .result) _ (not-true (c .before .before .before .before .convert .result .ok) (c .if4 .taken)) ∙ c .before .before .before .before .convert .ensures .0)) refl refl refl refl
 
 finish-requires : tie.Need-finish-requires
 finish-requires c κs =
@@ -137,7 +131,7 @@ returns-5 c =
     let n = c .before .before .before .before .before .before .before .before .before .before .before .before .before .before .before .read-len .result in
     let e = c .before .before .before .before .before .before .before .before .before .before .before .before .before .before .before .read-len .ensures in
     let k = not-false (c .before .before .before .before .before .before .before .before .before .before .convert .result .ok) (c .before .before .before .before .before .before .if4 .left) in
-    promised _ _ (Length (c .before .before .finish .result)) r _ w _ (call-wrote p u n e (length w) (length r) (c .before .before .before .before .before .before .before .before .before .before .before .before .before .before .if2 .left) (c .before .before .before .before .before .before .before .before .before .before .before .before .before .if3 .left) (c .before .before .before .before .before .before .before .before .before .before .convert .result .state) _ (yes (c .before .before .before .before .before .before .before .before .before .before .convert .result) _ k ∙ c .before .before .before .before .before .before .before .before .before .before .convert .ensures .0) (c .before .before .before .before .before .before .before .before .before .before .convert .ensures .1 k)) refl (c .before .before .finish .ensures .0) (c .before .before .finish .ensures .1) (λ a b. absurd (omega arith))
+    promised _ _ (Length (c .before .before .finish .result)) r _ w _ (call-wrote p u n e (length w) (length r) (c .before .before .before .before .before .before .before .before .before .before .before .before .before .before .if2 .left) (c .before .before .before .before .before .before .before .before .before .before .before .before .before .if3 .left) (c .before .before .before .before .before .before .before .before .before .before .convert .result .state) _ (yes (c .before .before .before .before .before .before .before .before .before .before .convert .result) _ k ∙ c .before .before .before .before .before .before .before .before .before .before .convert .ensures .0) (c .before .before .before .before .before .before .before .before .before .before .convert .ensures .1 k)) refl (c .before .before .finish .ensures .0) (c .before .before .finish .ensures .1) refl
 
 pub html-to-markdown-spec : {M : Type 1} → statement M
 html-to-markdown-spec =
