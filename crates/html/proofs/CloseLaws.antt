@@ -20,6 +20,7 @@ use Rattle.text.proofs.Tests.{decide, on, and-true}
 use Rattle.text.proofs.Utf8.{utf8-1, char-1}
 use Rattle.text.proofs.Laws.{by-chars, chars-nil, chars-utf8, chars-bad, Tails, Long, utf8-long, encode-chars}
 use Rattle.text.proofs.AsciiLaws.{Ascii, chars-ascii, starts-chars}
+use Rattle.text.proofs.FindLaws.{since}
 use Rattle.text.proofs.TrimLaws.{chars-start, end-space, end-other}
 use Rattle.html.specs.Struct.{closed}
 
@@ -120,7 +121,21 @@ comment-left (x ∷ s) = go (starts "-->" (x ∷ s)) (find "-->" s) (comment-lef
         let q : suc n + 3 ≡ suc (n + 3) = omega arith in
         rw q e
 
--- ---- the loop that looks for it
+-- ---- the loop that looks for it, from one dash to the next
+pub closed-since : (s : List ℕ) → closed (since 45 s) ≡ closed s
+closed-since [] = refl
+closed-since (x ∷ s) =
+    ⊎-elim
+    (λ t. rw t)
+    (λ t. rw t (closed-since s ∙ sym (closed-not x s (λ e. let z = sym t ∙ eq-eqb x 45 e in let y : _≡_ {A = ℕ} 0 1 = cc in absurd (omega arith)))))
+    (decide (eqb x 45))
+
+pub closed-none : (s : List ℕ) → since 45 s ≡ [] → closed s ≡ []
+closed-none s e = sym (closed-since s) ∙ ap closed e ∙ closed-nil
+
+pub closed-from : (s : List ℕ) (i j : ℕ) → drop j s ≡ since 45 (drop i s) → closed (drop j s) ≡ closed (drop i s)
+closed-from s i j e = ap closed e ∙ closed-since (drop i s)
+
 pub closed-here : (s : List ℕ) (j : ℕ) → j < length s → starts "-->" (drop j s) ≡ true → closed (drop j s) ≡ drop (j + 3) s
 closed-here s j l h =
     let d = drop-cons s j 0 l in
@@ -130,9 +145,6 @@ pub closed-next : (s : List ℕ) (j : ℕ) → j < length s → starts "-->" (dr
 closed-next s j l h =
     let d = drop-cons s j 0 l in
     ap closed d ∙ closed-cons _ _ ∙ rw (sym (ap (starts "-->") d) ∙ h, add-one j)
-
-pub closed-past : (s : List ℕ) (j : ℕ) → length s ≤ j → closed (drop j s) ≡ drop j s
-closed-past s j h = rw (drop-of-length-le s h) closed-nil
 
 starts-long : (p xs : List ℕ) → starts-with p xs ≡ true → length p ≤ length xs
 starts-long [] xs e = omega arith

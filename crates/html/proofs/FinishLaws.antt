@@ -122,12 +122,12 @@ module _ (page : List ℕ) (u : is-utf8 page ≡ true) where
       pub call-4 : none ≡ loop 0 (chars (take n page)) new → html-to-markdown-call page w r ≡ refused 4
       call-4 q = call-loop none q
 
-      pub call-wrote : (c : Converter) (work : List ℕ) → some (state-of c work) ≡ loop 0 (chars (take n page)) new → c .len ≤ length work
+      pub call-wrote : (c : Converter) (l work : List ℕ) → some (state-of c l work) ≡ loop 0 (chars (take n page)) new → c .len ≤ length work
           → html-to-markdown-call page w r ≡ wrote (encode (take 8000 (trim (chars (take (c .len) work)))))
       unfolding finish state-of out-of
-      call-wrote c work q l =
-          call-loop (some (state-of c work)) q
-          ∙ ap (λ (x : List ℕ). wrote (encode (take 8000 (trim x)))) (reverse-reverse (chars (written (c .len) work)) ∙ ap chars (written-take (c .len) work l))
+      call-wrote c l work q m =
+          call-loop (some (state-of c l work)) q
+          ∙ ap (λ (x : List ℕ). wrote (encode (take 8000 (trim x)))) (reverse-reverse (chars (written (c .len) work)) ∙ ap chars (written-take (c .len) work m))
 
 pub call-1 : (page : List ℕ) (w r : ℕ) → is-utf8 page ≡ false → html-to-markdown-call page w r ≡ refused 1
 unfolding html-to-markdown-call
@@ -145,10 +145,10 @@ pub notes-is : (notes trimmed work : List ℕ) (n : ℕ) → trimmed ≡ encode 
 notes-is notes trimmed work n e f = f ∙ ap (λ (x : List ℕ). encode (take 8000 x)) (ap chars e ∙ chars-trim (take n work))
 
 -- a refusal, and a state
-pub no : (t : Tagged) (w : List ℕ) → t .ok ≡ false → none ≡ tagged t w
+pub no : (t : Tagged) (l w : List ℕ) → t .ok ≡ false → none ≡ tagged t l w
 unfolding tagged
-no t w h = rw h
+no t l w h = rw h
 
-pub yes : (t : Tagged) (w : List ℕ) → t .ok ≡ true → some (state-of (t .state) w) ≡ tagged t w
+pub yes : (t : Tagged) (l w : List ℕ) → t .ok ≡ true → some (state-of (t .state) l w) ≡ tagged t l w
 unfolding tagged
-yes t w h = rw h
+yes t l w h = rw h

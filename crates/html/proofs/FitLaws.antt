@@ -17,7 +17,7 @@ use Rattle.text.proofs.Tests.{on}
 use Rattle.text.proofs.Utf8.{utf8-1}
 use Rattle.html.specs.State.{State, new, with-out, with-lists, with-skip, push-str, block, newline, spaced, marks, list-changed, item, tag, tag-of, text}
 use Rattle.html.specs.Page.{listed, shown, skipped, element, inside, words, Turn, read, refused, tag-read, comment, a-tag, markup, turn}
-use Rattle.html.specs.Struct.{tag-means, step-means, heading-of, list-tag, marks-of, number}
+use Rattle.html.specs.Struct.{tag-means, step-means, level-of, heading-of, list-tag, marks-of, number}
 use Rattle.html.specs.Names.{says}
 use Rattle.html.specs.declared.Tag.{Tag}
 use Rattle.html.specs.declared.Tag.the-variants.{Ul, Ol, Skipped, Writes}
@@ -91,17 +91,16 @@ item-fit m n c f b =
     }
 
 -- ---- the tags that only write
-level-most : (n : ℕ) (t : Bool) → ltb n 3 ≡ t → (if t then n else 3) ≤ 3
-level-most n true e = omega (arith, ltb-true n 3 e)
-level-most n false e = omega arith
+pub level-most : (n : ℕ) → level-of n ≤ 3
+level-most n = on (λ (k : ℕ). k ≤ 3) (ltb n 3) (λ e. omega (arith, ltb-true n 3 e)) (λ _. omega arith)
 
 heading-size : (n : ℕ) (closing : Bool) (c : State) → size (heading-of n closing c .out) ≤ size (c .out) + 149
 unfolding heading-of
 heading-size n true c = omega (arith, grow-block c)
 heading-size n false c =
-    let k = if ltb n 3 then n else 3 in
+    let k = level-of n in
     omega
-    (arith, ap (λ (d : State). size (d .out)) (heading-open k n (block c) refl), grow-str (32 ∷ []) (omega arith, tt) (push-str (replicate k 35) (block c)), grow-times k 35 (omega arith) (block c), grow-block c, level-most n (ltb n 3) refl)
+    (arith, ap (λ (d : State). size (d .out)) (heading-open k (block c)), grow-str (32 ∷ []) (omega arith, tt) (push-str (replicate k 35) (block c)), grow-times k 35 (omega arith) (block c), grow-block c, level-most n)
 
 heading-lists : (n : ℕ) (closing : Bool) (c : State) → heading-of n closing c .lists ≡ c .lists
 unfolding heading-of

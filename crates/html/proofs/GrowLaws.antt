@@ -21,13 +21,13 @@ use Rattle.html.specs.declared.Converter.{Converter}
 use Rattle.html.proofs.OutLaws.{size-out, size-aux}
 
 -- how long the output is: by the state, and after a step that makes it at most k longer
-pub len-of : (r : Converter) (w : List ℕ) (s : State) → state-of r w ≡ s → r .len ≡ size (s .out)
+pub len-of : (r : Converter) (l w : List ℕ) (s : State) → state-of r l w ≡ s → r .len ≡ size (s .out)
 unfolding state-of
-len-of r w s e = sym (size-out (r .len) w) ∙ ap (λ (t : State). size (t .out)) e
+len-of r l w s e = sym (size-out (r .len) w) ∙ ap (λ (t : State). size (t .out)) e
 
 pub grown : (f : State → State) (k : ℕ) → ((s : State) → size (f s .out) ≤ size (s .out) + k) → (a r : Converter) (w w' : List ℕ)
-    → state-of r w' ≡ f (state-of a w) → r .len ≤ a .len + k
-grown f k g a r w w' e = omega (arith, len-of r w' _ e, g (state-of a w), len-of a w _ refl)
+    → ((l : List ℕ) → state-of r l w' ≡ f (state-of a l w)) → r .len ≤ a .len + k
+grown f k g a r w w' e = omega (arith, len-of r [] w' _ (e []), g (state-of a [] w), len-of a [] w _ refl)
 
 -- ---- texts
 pub size-ascii : (xs : List ℕ) → Ascii xs → size xs ≡ length xs
@@ -52,6 +52,13 @@ decimal-ascii n = digits-ascii (suc n) n
 pub ascii-times : (k b : ℕ) → b < 0x80 → Ascii (replicate k b)
 ascii-times zero b h = tt
 ascii-times (suc k) b h = (h, ascii-times k b h)
+
+-- a buffer to whose written part an ASCII text was added
+pub all-len : (r n : ℕ) (xs w w' : List ℕ) → Ascii xs → out-of r w' ≡ reverseAux xs (out-of n w) → r ≡ n + length xs
+all-len r n xs w w' h e = omega (arith, size-out r w', ap size e, size-aux xs (out-of n w), size-out n w, size-ascii xs h)
+
+pub times-len : (r n k b : ℕ) (w w' : List ℕ) → b < 0x80 → out-of r w' ≡ reverseAux (replicate k b) (out-of n w) → r ≡ n + k
+times-len r n k b w w' h e = omega (arith, all-len r n (replicate k b) w w' (ascii-times k b h) e, length-replicate k b)
 
 pub grow-str : (xs : List ℕ) → Ascii xs → (c : State) → size (push-str xs c .out) ≤ size (c .out) + length xs
 grow-str xs h c = omega (arith, size-aux xs (c .out), size-ascii xs h)

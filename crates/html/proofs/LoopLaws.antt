@@ -30,18 +30,18 @@ unfolding size
 some-of [] h = h
 some-of (x ∷ cs) h = omega arith
 
-turned-yes : (r : Turned) (w html : List ℕ) → r .ok ≡ true → turned r w html ≡ some (chars (drop (r .next) html), state-of (r .state) w)
+turned-yes : (r : Turned) (l w html : List ℕ) → r .ok ≡ true → turned r l w html ≡ some (chars (drop (r .next) html), state-of (r .state) l w)
 unfolding turned
-turned-yes r w html h = rw h
+turned-yes r l w html h = rw h
 
-pub record Going (html out : List ℕ) (c : Converter) (at : ℕ) : Type 0 where
-  pub same : loop 0 (chars (drop at html)) (state-of c out) ≡ loop 0 (chars html) new
+pub record Going (html l out : List ℕ) (c : Converter) (at : ℕ) : Type 0 where
+  pub same : loop 0 (chars (drop at html)) (state-of c l out) ≡ loop 0 (chars html) new
   pub valid : Scalars (chars (drop at html))
   pub bound : at ≤ length html
-  pub fit : Fit at (2 * length html + 16384) (state-of c out)
+  pub fit : Fit at (2 * length html + 16384) (state-of c l out)
 
-pub going-new : (html out : List ℕ) (c : Converter) → state-of c out ≡ new → Scalars (chars html) → Going html out c 0
-going-new html out c e v =
+pub going-new : (html l out : List ℕ) (c : Converter) → state-of c l out ≡ new → Scalars (chars html) → Going html l out c 0
+going-new html l out c e v =
     record {
       same = ap (loop 0 (chars html)) e;
       valid = v;
@@ -49,47 +49,47 @@ going-new html out c e v =
       fit = rw e (fit-more 0 0 0 (2 * length html + 16384) new (omega arith) (omega arith) fit-new);
     }
 
-module _ (html out : List ℕ) (c : Converter) (at : ℕ) (g : Going html out c at) where
+module _ (html l out : List ℕ) (c : Converter) (at : ℕ) (g : Going html l out c at) where
   pub len-most : c .len ≤ 2 * length html + 16384
-  len-most = omega (arith, len-of c out _ refl, g .fit .short)
+  len-most = omega (arith, len-of c l out _ refl, g .fit .short)
 
   pub few-lists : c .depth ≤ 64
-  few-lists = omega (arith, depth-is c out _ refl, g .fit .few)
+  few-lists = omega (arith, depth-is c l out _ refl, g .fit .few)
 
-  pub small-number : number (lists-of c) ≤ at
-  small-number = rw (lists-is c out _ refl) (top at (state-of c out .lists) (g .fit .small 0))
+  pub small-number : number (lists-of c l) ≤ at
+  small-number = rw (lists-is c l out _ refl) (top at (state-of c l out .lists) (g .fit .small 0))
 
-  pub going-full : 16000 ≤ c .len → some (state-of c out) ≡ loop 0 (chars html) new
-  going-full h = sym (loop-full (chars (drop at html)) (state-of c out) (omega (arith, len-of c out _ refl))) ∙ g .same
+  pub going-full : 16000 ≤ c .len → some (state-of c l out) ≡ loop 0 (chars html) new
+  going-full h = sym (loop-full (chars (drop at html)) (state-of c l out) (omega (arith, len-of c l out _ refl))) ∙ g .same
 
-  pub going-end : length html ≤ at → some (state-of c out) ≡ loop 0 (chars html) new
-  going-end h = sym (loop-end html at (state-of c out) h) ∙ g .same
+  pub going-end : length html ≤ at → some (state-of c l out) ≡ loop 0 (chars html) new
+  going-end h = sym (loop-end html at (state-of c l out) h) ∙ g .same
 
-  module _ (l : at < length html) (s : c .len < 16000) (r : Turned) (out' : List ℕ)
-      (e : turned r out' html ≡ left (chars (drop at html)) (turn (chars (drop at html)) (state-of c out)))
+  module _ (p : at < length html) (s : c .len < 16000) (r : Turned) (l' out' : List ℕ)
+      (e : turned r l' out' html ≡ left (chars (drop at html)) (turn (chars (drop at html)) (state-of c l out)))
     where
       rest-some : 0 < length (chars (drop at html))
       rest-some = some-of (chars (drop at html)) (omega (arith, size-chars (drop at html), length-drop at html))
 
-      whole : (o : Option (List ℕ × State)) → turned r out' html ≡ o → (o >>= λ p. loop 0 (p .0) (p .1)) ≡ loop 0 (chars html) new
+      whole : (o : Option (List ℕ × State)) → turned r l' out' html ≡ o → (o >>= λ p. loop 0 (p .0) (p .1)) ≡ loop 0 (chars html) new
       whole o q =
           ap (λ (x : Option (List ℕ × State)). x >>= λ p. loop 0 (p .0) (p .1)) (sym q ∙ e)
-          ∙ sym (loop-left (chars (drop at html)) (state-of c out) rest-some (omega (arith, len-of c out _ refl)))
+          ∙ sym (loop-left (chars (drop at html)) (state-of c l out) rest-some (omega (arith, len-of c l out _ refl)))
           ∙ g .same
 
       pub going-refused : r .ok ≡ false → none ≡ loop 0 (chars html) new
       unfolding turned
       going-refused h = whole none (rw h)
 
-      pub going-next : r .ok ≡ true → at < r .next → r .next ≤ length html → at < 2 ^ 64 → Going html out' (r .state) (r .next)
+      pub going-next : r .ok ≡ true → at < r .next → r .next ≤ length html → at < 2 ^ 64 → Going html l' out' (r .state) (r .next)
       going-next h a b m =
-          let q = turned-yes r out' html h in
-          let k = kept (chars (drop at html)) (chars (drop (r .next) html)) (state-of c out) (state-of (r .state) out') (sym q ∙ e) in
-          let f = turn-fit at 15999 (chars (drop at html)) (state-of c out) (record { few = g .fit .few; small = g .fit .small; short = omega (arith, len-of c out _ refl) }) m in
+          let q = turned-yes r l' out' html h in
+          let k = kept (chars (drop at html)) (chars (drop (r .next) html)) (state-of c l out) (state-of (r .state) l' out') (sym q ∙ e) in
+          let f = turn-fit at 15999 (chars (drop at html)) (state-of c l out) (record { few = g .fit .few; small = g .fit .small; short = omega (arith, len-of c l out _ refl) }) m in
           let z = subst (OnTurn (Fit (at + 1) (15999 + 150 + 2 * size (chars (drop at html))))) (k .is) f in
           record {
-            same = whole (some (chars (drop (r .next) html), state-of (r .state) out')) q;
+            same = whole (some (chars (drop (r .next) html), state-of (r .state) l' out')) q;
             valid = subst Scalars (k .rest) (scalars-drop (k .count) (chars (drop at html)) (g .valid));
             bound = b;
-            fit = fit-more (at + 1) (15999 + 150 + 2 * size (chars (drop at html))) (r .next) (2 * length html + 16384) (state-of (r .state) out') (omega arith) (omega (arith, size-chars (drop at html), length-drop at html)) z;
+            fit = fit-more (at + 1) (15999 + 150 + 2 * size (chars (drop at html))) (r .next) (2 * length html + 16384) (state-of (r .state) l' out') (omega arith) (omega (arith, size-chars (drop at html), length-drop at html)) z;
           }

@@ -11,7 +11,6 @@ use lib.ListN.{length, length-append}
 use borrow.Author.Tests.{lt-ltb, le-ltb, ltb-false}
 use Rattle.text.specs.Words.{if_then_else_}
 use Rattle.text.specs.Decimal.{digits, decimal}
-use Rattle.html.specs.State.{State, push-str}
 
 if-cong : (t : Bool) (x y z : List ℕ) → (t ≡ false → y ≡ z) → (if t then x else y) ≡ (if t then x else z)
 if-cong true x y z h = refl
@@ -34,11 +33,11 @@ unfolding digits
 decimal-large n h =
     rw (le-ltb _ _ h) (ap (λ (x : List ℕ). x ++ ((48 + n % 10) ∷ [])) (digits-more n (suc (n / 10)) (n / 10) (omega arith) (omega arith)))
 
-pub number-small : (n : ℕ) (c : State) → n < 10 → push-str ((48 + n) ∷ []) c ≡ push-str (decimal n) c
-number-small n c h = rw (decimal-small n h)
+pub number-small : (n : ℕ) (o : List ℕ) → n < 10 → (48 + n) ∷ o ≡ reverseAux (decimal n) o
+number-small n o h = rw (decimal-small n h)
 
-pub number-large : (n : ℕ) (c : State) → 10 ≤ n → push-str ((48 + n % 10) ∷ []) (push-str (decimal (n / 10)) c) ≡ push-str (decimal n) c
-number-large n c h = rw (decimal-large n h, reverseAux-append (decimal (n / 10)) ((48 + n % 10) ∷ []) (c .out))
+pub number-large : (n : ℕ) (o : List ℕ) → 10 ≤ n → (48 + n % 10) ∷ reverseAux (decimal (n / 10)) o ≡ reverseAux (decimal n) o
+number-large n o h = rw (decimal-large n h, reverseAux-append (decimal (n / 10)) ((48 + n % 10) ∷ []) o)
 
 -- a number of 64 bits has at most 20 digits
 few : (k n x y : ℕ) (l : List ℕ) → n < 10 ^ suc k → ((j : ℕ) → n / 10 < 10 ^ suc j → length l ≤ suc j) → (t : Bool) → ltb n 10 ≡ t

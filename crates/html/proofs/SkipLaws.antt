@@ -7,14 +7,12 @@ use mathlib.Core.Bool.{Bool, true, false, not, _&&_, _||_}
 use mathlib.Core.Option.{Option, some, none}
 use mathlib.Core.List.{List, [], _∷_}
 use lib.Dec.{eqb}
-use lib.ListN.{length, getD, take, drop}
-use lib.Seq.{take-length}
-use borrow.Author.Tests.{eq-eqb, ne-eqb}
-use Rattle.text.specs.Words.{if_then_else_, case, str, same, starts, take-while}
+use lib.ListN.{drop}
+use mir.Val.{boolByte}
+use Rattle.text.specs.Words.{if_then_else_, case, str, same, starts}
 use Rattle.text.specs.Utf8.{chars}
-use Rattle.text.proofs.Tests.{on}
-use Rattle.text.proofs.Laws.{chars-nil}
-use Rattle.text.proofs.AsciiLaws.{chars-ascii, starts-chars}
+use Rattle.text.proofs.Tests.{and-true}
+use Rattle.text.proofs.AsciiLaws.{starts-chars}
 use Rattle.html.specs.State.{State, with-skip, tag-of, text}
 use Rattle.html.specs.Page.{listed, shown, skipped, element, inside, words}
 use Rattle.html.specs.Struct.{skip-name, tag-means}
@@ -23,6 +21,7 @@ use Rattle.html.specs.declared.Skip.{Skip}
 use Rattle.html.specs.declared.Skip.the-variants.{Nothing, Script, Style}
 use Rattle.html.specs.declared.Tag.{Tag}
 use Rattle.html.proofs.NameLaws.{says-means, says-skip, same-is, name-chars}
+use Rattle.html.proofs.CloseLaws.{drop-chars}
 
 no : {X : Type 0} → _≡_ {A = ℕ} 0 1 → X
 no e = absurd (omega arith)
@@ -64,7 +63,13 @@ name-some Nothing z = absurd (z refl)
 name-some Script z = refl
 name-some Style z = refl
 
-module _ (n : List ℕ) (c : State) where
+module _ (n : List ℕ) (c : State) (t : Tag) (q : t ≡ says n) where
+  abbrev named : ℕ
+  named = skip-no (tag-skip t)
+
+  named-is : Is n named
+  named-is = subst (λ u. Is n (skip-no (tag-skip u))) (sym q) (is-of n)
+
   -- nothing is skipped
   module _ (k : Skip) (e : c .skip ≡ skip-name k) (z : skip-no k ≡ 0) where
     none-is : c .skip ≡ none
@@ -75,87 +80,62 @@ module _ (n : List ℕ) (c : State) where
         by Script z = no (absurd (omega arith))
         by Style z = no (absurd (omega arith))
 
-    shows : (closing : Bool) → element closing n c ≡ shown closing n c
-    unfolding element
-    shows closing = rw none-is
-
-    pub element-closes : (closing : Bool) (t : Tag) → t ≡ says n → closing ≡ true → listed (tag-means t) closing c ≡ element closing n c
-    unfolding shown
-    element-closes closing t q h = sym (shows closing ∙ rw h (ap (λ x. listed x true c) (sym (says-means n) ∙ ap tag-means (sym q))))
-
-    pub element-tag : (closing : Bool) (t : Tag) → t ≡ says n → closing ≡ false → skip-no (tag-skip t) ≡ 0 → listed (tag-means t) closing c ≡ element closing n c
-    unfolding shown
-    element-tag closing t q h m = by (is-of n)
+    starts-skip : not (eqb named 0) ≡ (same (str "script") n || same (str "style") n)
+    starts-skip = by named-is
       where
-        by : Is n (skip-no (tag-skip (says n))) → listed (tag-means t) closing c ≡ element closing n c
-        by (script a b x y) = no (absurd (omega (arith, ap (λ u. skip-no (tag-skip u)) q)))
-        by (style a b x y) = no (absurd (omega (arith, ap (λ u. skip-no (tag-skip u)) q)))
-        by (neither a b x) = sym (shows closing ∙ rw (h, a, b) (ap (λ x. listed x false c) (sym (says-means n) ∙ ap tag-means (sym q))))
+        by : Is n named → not (eqb named 0) ≡ (same (str "script") n || same (str "style") n)
+        by (script a b x y) = rw (a, x)
+        by (style a b x y) = rw (a, b, x)
+        by (neither a b x) = rw (a, b, x)
 
-    pub element-skips : (closing : Bool) (t : Tag) → t ≡ says n → closing ≡ false → (skip-no (tag-skip t) ≡ 0 → ⊥) → some (with-skip (skip-name (tag-skip t)) c) ≡ element closing n c
-    unfolding shown
-    element-skips closing t q h m = by (is-of n)
+    -- the test of `shown`
+    shown-is : (closing b : Bool) → (not closing && not (eqb named 0)) ≡ b → element closing n c ≡ (if b then some (with-skip (some n) c) else listed (tag-of n) closing c)
+    unfolding element shown
+    shown-is closing b h = rw (none-is, sym (ap (λ (x : Bool). not closing && x) starts-skip) ∙ h)
+
+    pub element-tag : (closing : Bool) → (not closing && not (eqb named 0)) ≡ false → listed (tag-means t) closing c ≡ element closing n c
+    element-tag closing h = sym (shown-is closing false h ∙ ap (λ x. listed x closing c) (sym (says-means n) ∙ ap tag-means (sym q)))
+
+    pub element-skips : (closing : Bool) → (not closing && not (eqb named 0)) ≡ true → some (with-skip (skip-name (tag-skip t)) c) ≡ element closing n c
+    element-skips closing h = ap (λ o. some (with-skip o c)) (by named-is) ∙ sym (shown-is closing true h)
       where
-        num : skip-no (tag-skip t) ≡ skip-no (tag-skip (says n))
-        num = ap (λ u. skip-no (tag-skip u)) q
-
-        by : Is n (skip-no (tag-skip (says n))) → some (with-skip (skip-name (tag-skip t)) c) ≡ element closing n c
-        by (script a b x y) = rw (skip-one (tag-skip t) (num ∙ x)) (sym (shows closing ∙ rw (h, a) (ap (λ (l : List ℕ). some (with-skip (some l) c)) y)))
-        by (style a b x y) = rw (skip-two (tag-skip t) (num ∙ x)) (sym (shows closing ∙ rw (h, a, b) (ap (λ (l : List ℕ). some (with-skip (some l) c)) y)))
-        by (neither a b x) = absurd (m (num ∙ x))
+        by : Is n named → skip-name (tag-skip t) ≡ some n
+        by (script a b x y) = ap skip-name (skip-one (tag-skip t) x) ∙ ap some (sym y)
+        by (style a b x y) = ap skip-name (skip-two (tag-skip t) x) ∙ ap some (sym y)
+        by (neither a b x) =
+            let r = and-true (not closing) (not (eqb named 0)) h .1 in
+            let f : not (eqb named 0) ≡ false = rw x in
+            no (let y : true ≡ false = sym r ∙ f in cc)
 
   -- one of the two is skipped
   module _ (k : Skip) (e : c .skip ≡ skip-name k) (z : skip-no k ≡ 0 → ⊥) where
-    skips : (closing : Bool) → element closing n c ≡ skipped closing n (skip-text k) c
-    unfolding element
-    skips closing = ap (λ o. case o (shown closing n c) (λ skipping. skipped closing n skipping c)) (e ∙ name-some k z)
+    name-is : (k : Skip) (j : ℕ) → Is n j → (skip-no k ≡ 0 → ⊥) → same (skip-text k) n ≡ eqb (skip-no k) j
+    name-is Nothing j i z = absurd (z refl)
+    name-is Script j (script a b x y) z = rw x a
+    name-is Script j (style a b x y) z = rw x a
+    name-is Script j (neither a b x) z = rw x a
+    name-is Style j (script a b x y) z = rw x b
+    name-is Style j (style a b x y) z = rw x b
+    name-is Style j (neither a b x) z = rw x b
 
-    pub element-stays : (closing : Bool) → closing ≡ false → some c ≡ element closing n c
-    unfolding skipped
-    element-stays closing h = sym (skips closing ∙ rw h)
+    skipped-is : (closing b : Bool) → (closing && eqb (skip-no k) named) ≡ b → element closing n c ≡ some (if b then with-skip none c else c)
+    unfolding element skipped
+    skipped-is closing b h = rw (e, name-some k z, name-is k named named-is z, h)
 
-    same-no : (t : Bool) → same (skip-text k) n ≡ t → element true n c ≡ some (if t then with-skip none c else c)
-    unfolding skipped
-    same-no t h = skips true ∙ rw h
+    pub element-stays : (closing : Bool) → (closing && eqb (skip-no k) named) ≡ false → some c ≡ element closing n c
+    element-stays closing h = sym (skipped-is closing false h)
 
-  name-is : (k : Skip) (j : ℕ) → Is n j → (skip-no k ≡ 0 → ⊥) → same (skip-text k) n ≡ eqb (skip-no k) j
-  name-is Nothing j i z = absurd (z refl)
-  name-is Script j (script a b x y) z = rw x a
-  name-is Script j (style a b x y) z = rw x a
-  name-is Script j (neither a b x) z = rw x a
-  name-is Style j (script a b x y) z = rw x b
-  name-is Style j (style a b x y) z = rw x b
-  name-is Style j (neither a b x) z = rw x b
-
-  module _ (k : Skip) (e : c .skip ≡ skip-name k) (z : skip-no k ≡ 0 → ⊥) (t : Tag) (q : t ≡ says n) where
-    num-is : same (skip-text k) n ≡ eqb (skip-no k) (skip-no (tag-skip t))
-    num-is = rw q (name-is k _ (is-of n) z)
-
-    pub element-other : (closing : Bool) → closing ≡ true → (skip-no k ≡ skip-no (tag-skip t) → ⊥) → some c ≡ element closing n c
-    element-other closing h m = rw h (sym (same-no k e z false (num-is ∙ ne-eqb _ _ m)))
-
-    pub element-ends : (closing : Bool) → closing ≡ true → skip-no k ≡ skip-no (tag-skip t) → some (with-skip none c) ≡ element closing n c
-    element-ends closing h m = rw h (sym (same-no k e z true (num-is ∙ eq-eqb _ _ m)))
+    pub element-ends : (closing : Bool) → (closing && eqb (skip-no k) named) ≡ true → some (with-skip none c) ≡ element closing n c
+    element-ends closing h = sym (skipped-is closing true h)
 
 -- ---- `inside`, on bytes
-pub inside-none : (bs : List ℕ) (c : State) → length bs ≡ 0 → element false (name-of bs) c ≡ inside (chars bs) c
-unfolding inside name-of take-while
-inside-none [] c h = rw chars-nil
-inside-none (b ∷ bs) c h = absurd (omega arith)
-
-pub inside-close : (bs : List ℕ) (c : State) → 0 < length bs → getD bs 0 0 ≡ 47 → element true (name-of (take (length bs - 1) (drop 1 bs))) c ≡ inside (chars bs) c
-unfolding inside name-of take-while
-inside-close [] c h e = absurd (omega arith)
-inside-close (b ∷ bs) c h e =
-    let n : length (b ∷ bs) - 1 ≡ length bs = omega arith in
-    rw (chars-ascii b bs (omega arith), eq-eqb b 47 e, n, take-length bs) (ap (λ (l : List ℕ). element true l c) (sym (name-chars bs)))
-
-pub inside-open : (bs : List ℕ) (c : State) → 0 < length bs → (getD bs 0 0 ≡ 47 → ⊥) → element false (name-of bs) c ≡ inside (chars bs) c
-unfolding inside name-of take-while
-inside-open [] c h e = absurd (omega arith)
-inside-open (b ∷ bs) c h e =
-    let s : starts "/" (chars (b ∷ bs)) ≡ false = starts-chars (47 ∷ []) (b ∷ bs) (omega arith, tt) ∙ rw (ne-eqb b 47 e) in
-    rw s (ap (λ (l : List ℕ). element false l c) (sym (name-chars (b ∷ bs))))
+pub inside-is : (bs : List ℕ) (c : State) (t : Bool) → t ≡ starts "/" bs → element t (name-of (drop (boolByte t) bs)) c ≡ inside (chars bs) c
+unfolding inside name-of
+inside-is bs c true e =
+    rw (starts-chars (47 ∷ []) bs (omega arith, tt) ∙ sym e)
+    (ap (λ (l : List ℕ). element true l c) (sym (name-chars (drop 1 bs)) ∙ ap name-of (drop-chars (47 ∷ []) bs (omega arith, tt) (sym e))))
+inside-is bs c false e =
+    rw (starts-chars (47 ∷ []) bs (omega arith, tt) ∙ sym e) (ap (λ (l : List ℕ). element false l c) (sym (name-chars bs)))
 
 -- ---- `words`
 pub words-shown : (raw : List ℕ) (c : State) (k : Skip) → c .skip ≡ skip-name k → skip-no k ≡ 0 → text raw c ≡ words raw c

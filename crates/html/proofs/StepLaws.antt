@@ -19,9 +19,8 @@ use Rattle.text.specs.Decimal.{decimal}
 use Rattle.text.proofs.Tests.{on}
 use Rattle.html.specs.State.{State, with-out, with-lists, with-pre, push-str, line-start, block, newline, spaced, marks, list-changed, item, tag, ul, ol, other, code, Tag}
 use Rattle.html.specs.Page.{listed, is-list}
-use Rattle.html.specs.Struct.{state-of, out-of, upto, lists-of, number, with-space, unspaced, marks-of, ended, heading-of, list-tag, step-means, tagged}
+use Rattle.html.specs.Struct.{state-of, out-of, upto, lists-of, number, with-space, unspaced, marks-of, ended, heading-of, list-tag, step-means}
 use Rattle.html.specs.declared.Converter.{Converter}
-use Rattle.html.specs.declared.Tagged.{Tagged}
 use Rattle.html.specs.declared.Step.{Step}
 use Rattle.html.specs.declared.Step.the-variants.{Heading, Block, Pre, Break, Item, Row, Cell, Strong, Emphasis, Code, Other}
 use Rattle.html.proofs.OutLaws.{out-none, size-out}
@@ -48,16 +47,16 @@ upto-top n l v h k =
     ap (λ (m : ℕ). upto m (set l (n - 1) v)) i ∙ upto-push (n - 1) l v (omega arith) ∙ sym (ap (λ (x : List ℕ). v ∷ tail x) (upto-last n l h))
 
 -- ---- the open lists, by the struct
-pub lists-is : (r : Converter) (w : List ℕ) (s : State) → state-of r w ≡ s → lists-of r ≡ s .lists
+pub lists-is : (r : Converter) (l w : List ℕ) (s : State) → state-of r l w ≡ s → lists-of r l ≡ s .lists
 unfolding state-of
-lists-is r w s e = ap (λ (t : State). t .lists) e
+lists-is r l w s e = ap (λ (t : State). t .lists) e
 
-pub depth-is : (r : Converter) (w : List ℕ) (s : State) → state-of r w ≡ s → r .depth ≡ length (s .lists)
-depth-is r w s e = sym (length-upto (r .depth) (r .lists)) ∙ ap length (lists-is r w s e)
+pub depth-is : (r : Converter) (l w : List ℕ) (s : State) → state-of r l w ≡ s → r .depth ≡ length (s .lists)
+depth-is r l w s e = sym (length-upto (r .depth) l) ∙ ap length (lists-is r l w s e)
 
 -- two structs with the same open lists
-pub like : (a r : Converter) → lists-of r ≡ lists-of a → r .depth ≡ a .depth
-like a r e = sym (length-upto (r .depth) (r .lists)) ∙ ap length e ∙ length-upto (a .depth) (a .lists)
+pub like : (a r : Converter) (l : List ℕ) → lists-of r l ≡ lists-of a l → r .depth ≡ a .depth
+like a r l e = sym (length-upto (r .depth) l) ∙ ap length e ∙ length-upto (a .depth) l
 
 -- ---- `block` and `newline`
 pub empty-yes : (n : ℕ) (w : List ℕ) → n ≡ 0 → is-empty (out-of n w) ≡ true
@@ -72,10 +71,10 @@ pub empty-no : (n : ℕ) (w : List ℕ) → (n ≡ 0 → ⊥) → is-empty (out-
 empty-no n w h = some-size (out-of n w) n (size-out n w) h
 
 -- the state without the spaces at the output's end
-pub cleared : (a : Converter) (n : ℕ) (w : List ℕ) → out-of n w ≡ drop-while (is " ") (out-of (a .len) w)
-    → with-out (out-of n w) false (state-of a w) ≡ unspaced (state-of a w)
+pub cleared : (a : Converter) (n : ℕ) (l w : List ℕ) → out-of n w ≡ drop-while (is " ") (out-of (a .len) w)
+    → with-out (out-of n w) false (state-of a l w) ≡ unspaced (state-of a l w)
 unfolding state-of unspaced
-cleared a n w e = ap (λ (o : List ℕ). with-out o false (state-of a w)) e
+cleared a n l w e = ap (λ (o : List ℕ). with-out o false (state-of a l w)) e
 
 module _ (u c : State) (e : u ≡ unspaced c) where
   out-is : u .out ≡ drop-while (is " ") (c .out)
@@ -167,11 +166,11 @@ pub changed-some : (l : List ℕ) (c : State) → is-empty l ≡ false → newli
 unfolding list-changed
 changed-some l c e = rw e
 
-pub none-of : (a : Converter) → a .depth ≡ 0 → is-empty (lists-of a) ≡ true
-none-of a h = ap (λ (n : ℕ). is-empty (upto n (a .lists))) h
+pub none-of : (a : Converter) (l : List ℕ) → a .depth ≡ 0 → is-empty (lists-of a l) ≡ true
+none-of a l h = ap (λ (n : ℕ). is-empty (upto n l)) h
 
-pub some-of : (a : Converter) → (a .depth ≡ 0 → ⊥) → is-empty (lists-of a) ≡ false
-some-of a h = ap is-empty (upto-last (a .depth) (a .lists) (omega arith))
+pub some-of : (a : Converter) (l : List ℕ) → (a .depth ≡ 0 → ⊥) → is-empty (lists-of a l) ≡ false
+some-of a l h = ap is-empty (upto-last (a .depth) l (omega arith))
 
 pub list-closed : (first : ℕ) (c : State) → some (list-changed (tail (c .lists)) c) ≡ list-tag first true c
 unfolding list-tag
@@ -222,8 +221,18 @@ unfolding heading-of tag
 heading-tag n true c = refl
 heading-tag n false c = refl
 
-pub heading-open : (k n : ℕ) (b : State) → k ≡ (if ltb n 3 then n else 3) → push-str (32 ∷ []) (push-str (replicate k 35) b) ≡ push-str (repeat (if ltb n 3 then n else 3) "#" ++ str " ") b
-heading-open k n b e = rw (reverseAux-append (repeat (if ltb n 3 then n else 3) "#") (32 ∷ []) (b .out), hashes-is (if ltb n 3 then n else 3) (b .out), e)
+pub heading-open : (k : ℕ) (b : State) → push-str (32 ∷ []) (push-str (replicate k 35) b) ≡ push-str (repeat k "#" ++ str " ") b
+heading-open k b = rw (reverseAux-append (repeat k "#") (32 ∷ []) (b .out), hashes-is k (b .out))
+
+-- what the calls of `heading` answered, put together
+pub heading-written : (b : Converter) (l w w1 w2 : List ℕ) (k i m : ℕ) (c : State) → state-of b l w ≡ block c
+    → out-of i w1 ≡ reverseAux (replicate k 35) (out-of (b .len) w) → out-of m w2 ≡ 32 ∷ out-of i w1
+    → with-out (out-of m w2) (b .space) (state-of b l w) ≡ push-str (repeat k "#" ++ str " ") (block c)
+unfolding state-of
+heading-written b l w w1 w2 k i m c e f g =
+    ap (λ (o : List ℕ). with-out o (b .space) (state-of b l w)) (g ∙ ap (λ (o : List ℕ). 32 ∷ o) f)
+    ∙ heading-open k (state-of b l w)
+    ∙ ap (push-str (repeat k "#" ++ str " ")) e
 
 -- `code` in and outside `pre`
 pub code-pre : (closing : Bool) (c : State) → c .pre ≡ true → c ≡ tag code closing c
@@ -235,65 +244,59 @@ unfolding tag marks marks-of
 code-out closing c h = sym (ap (λ (t : Bool). if t then c else marks "`" closing c) h)
 
 -- ---- what the calls of `list` and `item` answered, put together
-pub list-closes : (first : ℕ) (a k r : Converter) (w w' : List ℕ) → state-of k w ≡ with-lists (tail (lists-of a)) (state-of a w)
-    → state-of r w' ≡ list-changed (lists-of k) (state-of k w) → some (state-of r w') ≡ list-tag first true (state-of a w)
+pub list-closes : (first : ℕ) (a k r : Converter) (l w w' : List ℕ) → state-of k l w ≡ with-lists (tail (lists-of a l)) (state-of a l w)
+    → state-of r l w' ≡ list-changed (lists-of k l) (state-of k l w) → some (state-of r l w') ≡ list-tag first true (state-of a l w)
 unfolding list-tag list-changed
-list-closes first a k r w w' e f =
-    let l = lists-is k w _ e in
-    let m = lists-is a w _ refl in
-    ap some (f ∙ ap (λ (x : List ℕ). list-changed x (state-of k w)) (l ∙ ap tail m) ∙ ap (list-changed (tail (state-of a w .lists))) e)
+list-closes first a k r l w w' e f =
+    let m = lists-is a l w _ refl in
+    ap some (f ∙ ap (λ (x : List ℕ). list-changed x (state-of k l w)) (lists-is k l w _ e ∙ ap tail m) ∙ ap (list-changed (tail (state-of a l w .lists))) e)
 
-pub list-opens : (first : ℕ) (a k r : Converter) (w w' : List ℕ) → a .depth < 64 → state-of k w ≡ with-lists (first ∷ lists-of a) (state-of a w)
-    → state-of r w' ≡ list-changed (lists-of k) (state-of k w) → some (state-of r w') ≡ list-tag first false (state-of a w)
+pub list-opens : (first : ℕ) (a k r : Converter) (l l' w w' : List ℕ) → a .depth < 64 → state-of k l' w ≡ with-lists (first ∷ lists-of a l) (state-of a l w)
+    → state-of r l' w' ≡ list-changed (lists-of k l') (state-of k l' w) → some (state-of r l' w') ≡ list-tag first false (state-of a l w)
 unfolding list-changed
-list-opens first a k r w w' h e f =
-    let l = lists-is k w _ e in
-    let m = lists-is a w _ refl in
-    ap some (f ∙ ap (λ (x : List ℕ). list-changed x (state-of k w)) (l ∙ ap (λ (x : List ℕ). first ∷ x) m) ∙ ap (list-changed (first ∷ state-of a w .lists)) e)
-    ∙ list-opened first (state-of a w) (omega (arith, depth-is a w _ refl))
+list-opens first a k r l l' w w' h e f =
+    let m = lists-is a l w _ refl in
+    ap some (f ∙ ap (λ (x : List ℕ). list-changed x (state-of k l' w)) (lists-is k l' w _ e ∙ ap (λ (x : List ℕ). first ∷ x) m) ∙ ap (list-changed (first ∷ state-of a l w .lists)) e)
+    ∙ list-opened first (state-of a l w) (omega (arith, depth-is a l w _ refl))
 
-number-last : (a : Converter) → 0 < a .depth → lists-of a ≡ number (lists-of a) ∷ upto (a .depth - 1) (a .lists)
+-- the innermost list's number stands at the array's end
+pub number-is : (n : ℕ) (l : List ℕ) → 0 < n → number (upto n l) ≡ getD l (n - 1) 0
 unfolding number
-number-last a h = let l = upto-last (a .depth) (a .lists) h in l ∙ ap (λ (n : ℕ). n ∷ upto (a .depth - 1) (a .lists)) (sym (ap number l))
+number-is n l h = ap number (upto-last n l h)
 
-twice : (a : Converter) → 2 * (a .depth - 1) ≡ 2 * length (upto (a .depth - 1) (a .lists))
-twice a = ap (λ (n : ℕ). 2 * n) (sym (length-upto (a .depth - 1) (a .lists)))
+twice : (n : ℕ) (l : List ℕ) → 2 * (n - 1) ≡ 2 * length (upto (n - 1) l)
+twice n l = ap (λ (m : ℕ). 2 * m) (sym (length-upto (n - 1) l))
 
-module _ (a t : Converter) (w w1 : List ℕ) (n : ℕ) (h : 0 < a .depth) (e : n ≡ number (lists-of a))
-    (f : state-of t w1 ≡ push-str (replicate (2 * (a .depth - 1)) 32) (state-of a w))
+module _ (a : Converter) (l w w1 : List ℕ) (n i : ℕ) (h : 0 < a .depth) (e : n ≡ getD l (a .depth - 1) 0)
+    (f : out-of i w1 ≡ reverseAux (replicate (2 * (a .depth - 1)) 32) (out-of (a .len) w))
   where
-    pub item-bullets : (r : Converter) (w2 : List ℕ) → n ≡ 0 → state-of r w2 ≡ push-str (45 ∷ 32 ∷ []) (state-of t w1)
-        → state-of r w2 ≡ item (lists-of a) (state-of a w)
-    item-bullets r w2 z g =
-        g ∙ ap (push-str (45 ∷ 32 ∷ [])) f
-        ∙ item-bullet (lists-of a) (upto (a .depth - 1) (a .lists)) (number (lists-of a)) (2 * (a .depth - 1)) (state-of a w) (number-last a h) (sym e ∙ z) (twice a)
+    last-is : lists-of a l ≡ n ∷ upto (a .depth - 1) l
+    last-is = upto-last (a .depth) l h ∙ ap (λ (x : ℕ). x ∷ upto (a .depth - 1) l) (sym e)
 
-    module _ (d s : Converter) (w2 w3 : List ℕ) (g : state-of d w2 ≡ push-str (decimal n) (state-of t w1))
-        (k : state-of s w3 ≡ push-str (46 ∷ 32 ∷ []) (state-of d w2))
-      where
-        whole : state-of s w3 ≡ push-str (46 ∷ 32 ∷ []) (push-str (decimal n) (push-str (replicate (2 * (a .depth - 1)) 32) (state-of a w)))
-        whole = k ∙ ap (push-str (46 ∷ 32 ∷ [])) (g ∙ ap (push-str (decimal n)) f)
+    pub item-bullets : (m : ℕ) (w2 : List ℕ) → n ≡ 0 → out-of m w2 ≡ reverseAux (45 ∷ 32 ∷ []) (out-of i w1)
+        → with-out (out-of m w2) (a .space) (state-of a l w) ≡ item (lists-of a l) (state-of a l w)
+    unfolding state-of
+    item-bullets m w2 z g =
+        ap (λ (o : List ℕ). with-out o (a .space) (state-of a l w)) (g ∙ ap (reverseAux (45 ∷ 32 ∷ [])) f)
+        ∙ item-bullet (lists-of a l) (upto (a .depth - 1) l) n (2 * (a .depth - 1)) (state-of a l w) last-is z (twice (a .depth) l)
 
-        pub item-depth : s .depth ≡ a .depth
-        item-depth = depth-is s w3 _ whole ∙ sym (depth-is a w _ refl)
-
-        pub item-numbers : (r : Converter) → (n ≡ 0 → ⊥) → state-of r w3 ≡ with-lists ((n + 1) ∷ tail (lists-of s)) (state-of s w3)
-            → state-of r w3 ≡ item (lists-of a) (state-of a w)
-        item-numbers r z q =
-            let m = upto (a .depth - 1) (a .lists) in
-            let l : tail (lists-of s) ≡ m = ap tail (lists-is s w3 _ whole ∙ sym (lists-is a w _ refl) ∙ number-last a h) in
-            q
-            ∙ ap (λ (x : List ℕ). with-lists ((n + 1) ∷ x) (state-of s w3)) l
-            ∙ ap (with-lists ((n + 1) ∷ m)) whole
-            ∙ item-number (lists-of a) m n (2 * (a .depth - 1)) (state-of a w) (number-last a h ∙ ap (λ (x : ℕ). x ∷ m) (sym e)) z (twice a)
+    pub item-numbers : (j m : ℕ) (w2 w3 : List ℕ) → (n ≡ 0 → ⊥) → a .depth ≤ length l → out-of j w2 ≡ reverseAux (decimal n) (out-of i w1)
+        → out-of m w3 ≡ reverseAux (46 ∷ 32 ∷ []) (out-of j w2)
+        → with-lists (upto (a .depth) (set l (a .depth - 1) (n + 1))) (with-out (out-of m w3) (a .space) (state-of a l w)) ≡ item (lists-of a l) (state-of a l w)
+    unfolding state-of
+    item-numbers j m w2 w3 z k g q =
+        ap (λ (x : List ℕ). with-lists x (with-out (out-of m w3) (a .space) (state-of a l w))) (upto-top (a .depth) l (n + 1) h k ∙ ap (λ (x : List ℕ). (n + 1) ∷ tail x) last-is)
+        ∙ ap (λ (o : List ℕ). with-lists ((n + 1) ∷ upto (a .depth - 1) l) (with-out o (a .space) (state-of a l w))) (q ∙ ap (reverseAux (46 ∷ 32 ∷ [])) (g ∙ ap (reverseAux (decimal n)) f))
+        ∙ item-number (lists-of a l) (upto (a .depth - 1) l) n (2 * (a .depth - 1)) (state-of a l w) last-is z (twice (a .depth) l)
 
 -- a new line leaves the lists as they are
-pub newline-same : (a r : Converter) (w w' : List ℕ) → state-of r w' ≡ newline (state-of a w) → lists-of r ≡ lists-of a
-newline-same a r w w' e = lists-is r w' _ e ∙ newline-lists (state-of a w) ∙ sym (lists-is a w _ refl)
+pub newline-same : (a r : Converter) (l w w' : List ℕ) → state-of r l w' ≡ newline (state-of a l w) → lists-of r l ≡ lists-of a l
+newline-same a r l w w' e = lists-is r l w' _ e ∙ newline-lists (state-of a l w) ∙ sym (lists-is a l w _ refl)
 
-pub item-tag : (a r : Converter) (w w' : List ℕ) → state-of r w' ≡ newline (state-of a w) → item (lists-of r) (state-of r w') ≡ tag (step-means Item) false (state-of a w)
+pub item-tag : (a r : Converter) (l w w' : List ℕ) → state-of r l w' ≡ newline (state-of a l w)
+    → item (lists-of r l) (state-of r l w') ≡ tag (step-means Item) false (state-of a l w)
 unfolding tag
-item-tag a r w w' e = ap (λ (l : List ℕ). item l (state-of r w')) (newline-same a r w w' e ∙ lists-is a w _ refl) ∙ ap (item (state-of a w .lists)) e
+item-tag a r l w w' e = ap (λ (x : List ℕ). item x (state-of r l w')) (newline-same a r l w w' e ∙ lists-is a l w _ refl) ∙ ap (item (state-of a l w .lists)) e
 
 -- ---- a pending space, written
 abbrev pub pending : Bool → ℕ
@@ -304,10 +307,10 @@ unfolding spaced
 spaced-with s o true = refl
 spaced-with s o false = refl
 
-pub spaced-state : (a : Converter) (n : ℕ) (w w' : List ℕ) → out-of n w' ≡ with-space (a .space) (out-of (a .len) w)
-    → with-out (out-of n w') false (state-of a w) ≡ spaced (state-of a w)
+pub spaced-state : (a : Converter) (n : ℕ) (l w w' : List ℕ) → out-of n w' ≡ with-space (a .space) (out-of (a .len) w)
+    → with-out (out-of n w') false (state-of a l w) ≡ spaced (state-of a l w)
 unfolding state-of
-spaced-state a n w w' e = ap (λ (o : List ℕ). with-out o false (state-of a w)) e ∙ sym (spaced-with (state-of a w) (out-of (a .len) w) (a .space))
+spaced-state a n l w w' e = ap (λ (o : List ℕ). with-out o false (state-of a l w)) e ∙ sym (spaced-with (state-of a l w) (out-of (a .len) w) (a .space))
 
 pub out-len : (r : ℕ) (w o : List ℕ) → out-of r w ≡ o → r ≡ size o
 out-len r w o e = sym (size-out r w) ∙ ap size e
@@ -320,3 +323,6 @@ spaced-len r n w w' false e = omega (arith, out-len r w' _ e, size-out n w)
 pub put-len : (r n c : ℕ) (w w' : List ℕ) → out-of r w' ≡ c ∷ out-of n w → r ≡ n + length (utf8 c)
 unfolding size
 put-len r n c w w' e = omega (arith, out-len r w' _ e, size-out n w)
+
+pub push-len : (r n b : ℕ) (w w' : List ℕ) → b < 0x80 → out-of r w' ≡ b ∷ out-of n w → r ≡ n + 1
+push-len r n b w w' h e = omega (arith, put-len r n b w w' e, ap length (utf8-1 b h))

@@ -29,7 +29,7 @@ use Rattle.html.specs.Pen.{pen-state, paused, opens, blank, Unescaped}
 use Rattle.html.specs.declared.words.Pen.{Pen}
 use Rattle.html.specs.declared.words.Piece.{Piece}
 use Rattle.html.proofs.OutLaws.{size-out}
-use Rattle.html.proofs.StepLaws.{spaced-with, pending}
+use Rattle.html.proofs.StepLaws.{spaced-lists, spaced-with, pending}
 
 -- ---- which characters are escaped
 pub five : (a b c d e : Bool) → a || b || c || d || e ≡ a || (b || (c || (d || (e || false))))
@@ -298,13 +298,9 @@ unfolding put-all size
 put-all-weight first [] c = omega arith
 put-all-weight first (x ∷ xs) c = omega (arith, put-all-weight (next first x c .0) xs (next first x c .1), next-weight first x c)
 
-spaced-keeps : (c : State) → spaced c .lists ≡ c .lists
-unfolding spaced
-spaced-keeps c = on (λ (d : State). d .lists ≡ c .lists) (c .space) (λ _. refl) (λ _. refl)
-
 next-lists : (first : Bool) (x : ℕ) (c : State) → next first x c .1 .lists ≡ c .lists
 unfolding next put
-next-lists first x c = on (λ (n : Bool × State). n .1 .lists ≡ c .lists) (not (c .pre) && is-space x) (λ _. refl) (λ _. spaced-keeps c)
+next-lists first x c = on (λ (n : Bool × State). n .1 .lists ≡ c .lists) (not (c .pre) && is-space x) (λ _. refl) (λ _. spaced-lists c)
 
 put-all-lists : (first : Bool) (xs : List ℕ) (c : State) → put-all first xs c .lists ≡ c .lists
 unfolding put-all

@@ -22,7 +22,7 @@ use Rattle.text.proofs.AsciiLaws.{chars-ascii, starts-chars}
 use Rattle.text.proofs.FindLaws.{until, since, until-since, chars-until, chars-since, index-until, IsHere, found-here, found-nowhere}
 use Rattle.html.specs.State.{State}
 use Rattle.html.specs.Page.{inside, words, Turn, read, refused, tag-read, comment, a-tag, markup, turn, on-turn, loop}
-use Rattle.html.specs.Struct.{state-of, lists-of, tagged, turned, left, closed}
+use Rattle.html.specs.Struct.{state-of, tagged, turned, left, closed}
 use Rattle.html.specs.declared.Tagged.{Tagged}
 use Rattle.html.specs.declared.Converter.{Converter}
 use Rattle.html.proofs.OutLaws.{size-encode}
@@ -218,11 +218,11 @@ module _ (h : List ℕ) (at : ℕ) (c : State) where
             sym (turn-tag rest c some-left (starts-is t e ∙ n) s ∙ ap (λ (l : List ℕ). tag-left l (inside (trim (drop 1 (until 62 (since 60 rest)))) (words (until 60 rest) c))) after-end
             ∙ ap (tag-left (chars (drop (end + 1) h))) (sym (i ∙ ap (λ (l : List ℕ). inside l d) p ∙ ap (inside (trim (drop 1 (until 62 (since 60 rest))))) (sym state-is))))
 
-pub turned-tag : (t : Tagged) (w l : List ℕ) → (if t .ok then some (l, state-of (t .state) w) else none) ≡ tag-left l (tagged t w)
+pub turned-tag : (t : Tagged) (m w l : List ℕ) → (if t .ok then some (l, state-of (t .state) m w) else none) ≡ tag-left l (tagged t m w)
 unfolding tagged
-turned-tag t w l = go (t .ok)
+turned-tag t m w l = go (t .ok)
   where
-    go : (b : Bool) → (if b then some (l, state-of (t .state) w) else none) ≡ tag-left l (if b then some (state-of (t .state) w) else none)
+    go : (b : Bool) → (if b then some (l, state-of (t .state) m w) else none) ≡ tag-left l (if b then some (state-of (t .state) m w) else none)
     go true = refl
     go false = refl
 
@@ -327,14 +327,12 @@ size-chars bs = size-encode (chars bs) ∙ ap length (encode-chars bs)
 -- after the text of a turn the tag has room
 pub record Room (a r : Converter) (n : ℕ) : Type 0 where
   pub len : r .len ≤ a .len + 1 + 2 * n
-  pub lists : lists-of r ≡ lists-of a
   pub depth : r .depth ≡ a .depth
 
-pub words-room : (a r : Converter) (w w' bs : List ℕ) → state-of r w' ≡ words (chars bs) (state-of a w) → Room a r (length bs)
+pub words-room : (a r : Converter) (w w' bs : List ℕ) → ((l : List ℕ) → state-of r l w' ≡ words (chars bs) (state-of a l w)) → Room a r (length bs)
 words-room a r w w' bs e =
-    let l = lists-is r w' _ e ∙ words-lists (chars bs) (state-of a w) ∙ sym (lists-is a w _ refl) in
+    let k = lists-is r [] w' _ (e []) ∙ words-lists (chars bs) (state-of a [] w) ∙ sym (lists-is a [] w _ refl) in
     record {
-      len = omega (arith, len-of r w' _ e, words-size (chars bs) (state-of a w), len-of a w _ refl, size-chars bs);
-      lists = l;
-      depth = like a r l;
+      len = omega (arith, len-of r [] w' _ (e []), words-size (chars bs) (state-of a [] w), len-of a [] w _ refl, size-chars bs);
+      depth = like a r [] k;
     }

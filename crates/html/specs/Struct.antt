@@ -36,8 +36,8 @@ abbrev pub upto : ℕ → List ℕ → List ℕ
 upto zero l = []
 upto (suc n) l = getD l n 0 ∷ upto n l
 
-abbrev pub lists-of : Converter → List ℕ
-lists-of c = upto (c .depth) (c .lists)
+abbrev pub lists-of : Converter → List ℕ → List ℕ
+lists-of c l = upto (c .depth) l
 
 -- what the innermost list has counted: 0 for `ul`, and where none is open
 unfoldable pub number : List ℕ → ℕ
@@ -49,9 +49,9 @@ skip-name Nothing = none
 skip-name Script = some (str "script")
 skip-name Style = some (str "style")
 
--- the state that a struct and the lent output hold
-unfoldable pub state-of : Converter → List ℕ → State
-state-of c w = record { out = out-of (c .len) w; lists = lists-of c; pre = c .pre; skip = skip-name (c .skip); space = c .space }
+-- the state that a struct, the lent array of list numbers and the lent output hold
+unfoldable pub state-of : Converter → List ℕ → List ℕ → State
+state-of c l w = record { out = out-of (c .len) w; lists = lists-of c l; pre = c .pre; skip = skip-name (c .skip); space = c .space }
 
 -- no pending space, and no spaces at the output's end
 unfoldable pub unspaced : State → State
@@ -70,8 +70,11 @@ unfoldable pub ended : List ℕ → State → State
 ended s c = with-out (reverseAux s (c .out)) false c
 
 -- `h1` to `h6`
+abbrev pub level-of : ℕ → ℕ
+level-of n = if ltb n 3 then n else 3
+
 unfoldable pub heading-of : ℕ → Bool → State → State
-heading-of n closing c = if closing then block c else push-str (repeat (if ltb n 3 then n else 3) "#" ++ str " ") (block c)
+heading-of n closing c = if closing then block c else push-str (repeat (level-of n) "#" ++ str " ") (block c)
 
 -- `ul` and `ol`, by the number that the list starts with
 unfoldable pub list-tag : ℕ → Bool → State → Option State
@@ -82,7 +85,7 @@ list-tag first closing c =
 
 -- the tags that only write, and all tags
 abbrev pub step-means : Step → state.Tag
-step-means (Heading n) = heading (if ltb n 3 then n else 3)
+step-means (Heading n) = heading (level-of n)
 step-means Block = para
 step-means Pre = pre
 step-means Break = br
@@ -101,16 +104,16 @@ tag-means (Skipped k) = other
 tag-means (Writes t) = step-means t
 
 -- what a tag step answers: none is the refusal
-unfoldable pub tagged : Tagged → List ℕ → Option State
-tagged r w = if r .ok then some (state-of (r .state) w) else none
+unfoldable pub tagged : Tagged → List ℕ → List ℕ → Option State
+tagged r l w = if r .ok then some (state-of (r .state) l w) else none
 
 -- what a turn leaves: the characters that are left, and the state; none is the refusal
 abbrev pub left : List ℕ → Turn → Option (List ℕ × State)
 left s refused = none
 left s (read n d) = some (drop n s, d)
 
-unfoldable pub turned : Turned → List ℕ → List ℕ → Option (List ℕ × State)
-turned r w html = if r .ok then some (chars (drop (r .next) html), state-of (r .state) w) else none
+unfoldable pub turned : Turned → List ℕ → List ℕ → List ℕ → Option (List ℕ × State)
+turned r l w html = if r .ok then some (chars (drop (r .next) html), state-of (r .state) l w) else none
 
 -- what is left after the first `-->`
 unfoldable pub closed : List ℕ → List ℕ

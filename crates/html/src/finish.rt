@@ -7,22 +7,6 @@ ghost use Rattle.text.specs.Utf8.{chars, encode};
 ghost use Rattle.text.specs.Trim.{trim};
 ghost use Rattle.text.specs.Outcome.{front};
 
-// The first n characters of s.
-fn first(s: &[u8], n: usize) -> &[u8]
-    ensures { λ r. ⌜ now r ≡ encode (take n (chars (now (s .entry)))) ⌝ }
-{
-    let mut i = 0;
-    let mut k = 0;
-    while k < n {
-        if s.len() <= i {
-            return s;
-        }
-        i += text::size_at(s, i);
-        k += 1;
-    }
-    &s[..i]
-}
-
 // The front of a buffer becomes s.
 fn copy(s: &[u8], to: &mut [u8])
     requires { ⌜ length (now s) ≤ length (now to) ⌝ }
@@ -40,7 +24,7 @@ pub(crate) fn finish(work: &[u8], len: usize, result: &mut [u8]) -> usize
     requires { ⌜ (len ≤ length (now work)) × (32000 ≤ length (now result)) ⌝ }
     ensures { λ r. ⌜ (r ≡ length (encode (take 8000 (trim (chars (take len (now (work .entry)))))))) × (now (result .exit) ≡ front (encode (take 8000 (trim (chars (take len (now (work .entry))))))) (now (result .entry))) ⌝ }
 {
-    let notes = first(text::trim(&work[..len]), Converter::MAX_NOTES);
+    let notes = text::first(text::trim(&work[..len]), Converter::MAX_NOTES);
     copy(notes, result);
     notes.len()
 }

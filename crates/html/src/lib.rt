@@ -18,7 +18,6 @@ mod words;
 
 use finish::finish;
 use page::convert;
-use page::read_len;
 
 // What `html_to_markdown` answers: the Markdown's length, or why there is none.
 pub enum Answer {
@@ -36,11 +35,10 @@ pub enum Skip {
     Style,
 }
 
-// The state: how many bytes of the lent output are written, the numbers of the open lists (0 for `ul`, for `ol` one
-// more than the items begun), and three flags.
+// The state: how many bytes of the lent output are written, how many lists are open, and three flags. The lists' numbers (0 for `ul`,
+// for `ol` one more than the items begun) are an array that is lent beside the state, so that no step copies it.
 pub struct Converter {
     pub len: usize,
-    pub lists: [usize; Converter::MAX_LISTS],
     pub depth: usize,
     pub pre: bool,
     pub space: bool,
@@ -97,11 +95,10 @@ impl Converter {
     pub const MAX_HTML: usize = 1_048_576;
 
     pub fn new() -> Self
-        ensures { λ r. ⌜ ((w : List ℕ) → state-of r w ≡ new) ⌝ }
+        ensures { λ r. ⌜ ((l w : List ℕ) → state-of r l w ≡ new) ⌝ }
     {
         Converter {
             len: 0,
-            lists: [0; Self::MAX_LISTS],
             depth: 0,
             pre: false,
             space: false,
@@ -119,14 +116,15 @@ pub fn html_to_markdown(page: &[u8], work: &mut [u8], result: &mut [u8]) -> Answ
     if !text::is_utf8(page) {
         return Answer::NotUtf8;
     }
-    let n = read_len(page);
+    let n = text::cut_len(page, Converter::MAX_HTML);
     if work.len() < 2 * n + 16_384 {
         return Answer::SmallWork;
     }
     if result.len() < 4 * Converter::MAX_NOTES {
         return Answer::SmallResult;
     }
-    let t = convert(work, &page[..n]);
+    let mut lists = [0; Converter::MAX_LISTS];
+    let t = convert(&mut lists, work, &page[..n]);
     if !t.ok {
         return Answer::TooManyLists;
     }

@@ -1,15 +1,14 @@
 // The written part of the lent output: bytes more and spaces fewer at its end, and what it ends with.
-use crate::Converter;
 ghost use mathlib.Core.Path.{_≡_};
 ghost use Prim.Native.Nat.{_+_, _≤_, _<_};
-ghost use mathlib.Core.List.{[], _∷_};
+ghost use mathlib.Core.List.{_∷_, reverseAux};
 ghost use lib.ListN.{length, replicate};
 ghost use Rattle.text.specs.Words.{is, starts, drop-while};
 ghost use Rattle.text.specs.Utf8.{IsScalar, utf8};
 ghost use Rattle.text.specs.Decimal.{decimal};
 ghost use Rattle.text.proofs.AsciiLaws.{Ascii};
-ghost use Rattle.html.specs.State.{push-str, line-start, ends-with-digit};
-ghost use Rattle.html.specs.Struct.{state-of, out-of, with-space};
+ghost use Rattle.html.specs.State.{line-start, ends-with-digit};
+ghost use Rattle.html.specs.Struct.{out-of, with-space};
 
 // The written bytes, without the spaces at their end.
 pub(crate) fn unspaced(out: &[u8], len: usize) -> usize
@@ -88,59 +87,53 @@ pub(crate) fn put_char(out: &mut [u8], n: usize, c: u32) -> usize
     n + k
 }
 
-impl Converter {
-    // One ASCII byte more.
-    pub(crate) fn push(mut self, out: &mut [u8], byte: u8) -> Self
-        requires { ⌜ (self .len < length (now out)) × (byte < 0x80) ⌝ }
-        ensures { λ r. ⌜ state-of r (now (out .exit)) ≡ push-str (byte ∷ []) (state-of self (now (out .entry))) ⌝ }
-    {
-        let at = self.len;
+// One ASCII byte more.
+pub(crate) fn push(out: &mut [u8], n: usize, byte: u8) -> usize
+    requires { ⌜ (n < length (now out)) × (byte < 0x80) ⌝ }
+    ensures { λ r. ⌜ out-of r (now (out .exit)) ≡ byte ∷ out-of n (now (out .entry)) ⌝ }
+{
+    out[n] = byte;
+    n + 1
+}
+
+// The bytes of an ASCII text more.
+pub(crate) fn push_all(out: &mut [u8], n: usize, bytes: &[u8]) -> usize
+    requires { ⌜ (n + length (now bytes) ≤ length (now out)) × Ascii (now bytes) ⌝ }
+    ensures { λ r. ⌜ out-of r (now (out .exit)) ≡ reverseAux (now (bytes .entry)) (out-of n (now (out .entry))) ⌝ }
+{
+    let mut at = n;
+    let mut i = 0;
+    while i < bytes.len() {
+        out[at] = bytes[i];
+        at += 1;
+        i += 1;
+    }
+    at
+}
+
+// One ASCII byte more, several times.
+pub(crate) fn push_times(out: &mut [u8], n: usize, byte: u8, times: usize) -> usize
+    requires { ⌜ (n + times ≤ length (now out)) × (byte < 0x80) ⌝ }
+    ensures { λ r. ⌜ out-of r (now (out .exit)) ≡ reverseAux (replicate times byte) (out-of n (now (out .entry))) ⌝ }
+{
+    let mut at = n;
+    let mut left = times;
+    while 0 < left {
         out[at] = byte;
-        self.len = at + 1;
-        self
+        at += 1;
+        left -= 1;
     }
+    at
+}
 
-    // The bytes of an ASCII text more.
-    pub(crate) fn push_all(mut self, out: &mut [u8], bytes: &[u8]) -> Self
-        requires { ⌜ (self .len + length (now bytes) ≤ length (now out)) × Ascii (now bytes) ⌝ }
-        ensures { λ r. ⌜ state-of r (now (out .exit)) ≡ push-str (now (bytes .entry)) (state-of self (now (out .entry))) ⌝ }
-    {
-        let mut at = self.len;
-        let mut i = 0;
-        while i < bytes.len() {
-            out[at] = bytes[i];
-            at += 1;
-            i += 1;
-        }
-        self.len = at;
-        self
+// A number more, in decimal.
+pub(crate) fn push_number(out: &mut [u8], n: usize, number: usize) -> usize
+    requires { ⌜ n + length (decimal number) ≤ length (now out) ⌝ }
+    ensures { λ r. ⌜ out-of r (now (out .exit)) ≡ reverseAux (decimal number) (out-of n (now (out .entry))) ⌝ }
+{
+    if number < 10 {
+        return push(out, n, b'0' + number as u8);
     }
-
-    // One ASCII byte more, several times.
-    pub(crate) fn push_times(mut self, out: &mut [u8], byte: u8, times: usize) -> Self
-        requires { ⌜ (self .len + times ≤ length (now out)) × (byte < 0x80) ⌝ }
-        ensures { λ r. ⌜ state-of r (now (out .exit)) ≡ push-str (replicate times byte) (state-of self (now (out .entry))) ⌝ }
-    {
-        let mut at = self.len;
-        let mut left = times;
-        while 0 < left {
-            out[at] = byte;
-            at += 1;
-            left -= 1;
-        }
-        self.len = at;
-        self
-    }
-
-    // A number more, in decimal.
-    pub(crate) fn push_number(mut self, out: &mut [u8], n: usize) -> Self
-        requires { ⌜ self .len + length (decimal n) ≤ length (now out) ⌝ }
-        ensures { λ r. ⌜ state-of r (now (out .exit)) ≡ push-str (decimal n) (state-of self (now (out .entry))) ⌝ }
-    {
-        if n < 10 {
-            return self.push(out, b'0' + n as u8);
-        }
-        self = self.push_number(out, n / 10);
-        self.push(out, b'0' + (n % 10) as u8)
-    }
+    let m = push_number(out, n, number / 10);
+    push(out, m, b'0' + (number % 10) as u8)
 }

@@ -1,7 +1,6 @@
 // A page as text, comments and tags: the loop of `html_to_markdown`.
 use crate::Converter;
 use crate::Skip;
-use crate::Tag;
 use crate::Tagged;
 use crate::Turned;
 use crate::names::skip_no;
@@ -13,8 +12,7 @@ ghost use Prim.Native.Nat.{ℕ, _+_, _*_, _^_, _≤_, _<_};
 ghost use mathlib.Core.List.{List};
 ghost use mathlib.Core.Bool.{true};
 ghost use lib.ListN.{length, drop};
-ghost use Rattle.text.specs.Utf8.{Scalars, encode, chars};
-ghost use Rattle.text.specs.Cut.{cut};
+ghost use Rattle.text.specs.Utf8.{Scalars, chars};
 ghost use Rattle.html.specs.State.{new, with-skip};
 ghost use Rattle.html.specs.Page.{element, inside, words, turn, loop};
 ghost use Rattle.html.specs.Struct.{state-of, lists-of, number, skip-name, tagged, turned, left, closed};
@@ -23,12 +21,10 @@ ghost use Rattle.html.specs.Names.{name-of};
 impl Converter {
     // The state with another tag skipped.
     fn skipping(self, skip: Skip) -> Self
-        ensures { λ r. ⌜ ((w : List ℕ) → state-of r w ≡ with-skip (skip-name skip) (state-of self w)) ⌝ }
+        ensures { λ r. ⌜ ((l w : List ℕ) → state-of r l w ≡ with-skip (skip-name skip) (state-of self l w)) ⌝ }
     {
-        let lists = self.lists;
         Converter {
             len: self.len,
-            lists: lists,
             depth: self.depth,
             pre: self.pre,
             space: self.space,
@@ -37,67 +33,49 @@ impl Converter {
     }
 
     // A tag by its name, outside and inside `script` and `style`.
-    fn element(mut self, out: &mut [u8], name: &[u8], closing: bool) -> Tagged
-        requires { ⌜ self .depth ≤ 64 ⌝ }
+    fn element(mut self, lists: &mut [usize], out: &mut [u8], name: &[u8], closing: bool) -> Tagged
+        requires { ⌜ (self .depth ≤ 64) × (64 ≤ length (now lists)) ⌝ }
         requires { ⌜ self .len + 149 ≤ length (now out) ⌝ }
-        requires { ⌜ number (lists-of self) + 1 < 2 ^ 64 ⌝ }
-        ensures { λ r. ⌜ tagged r (now (out .exit)) ≡ element closing (name-of (now (name .entry))) (state-of self (now (out .entry))) ⌝ }
+        requires { ⌜ number (lists-of self (now lists)) + 1 < 2 ^ 64 ⌝ }
+        ensures { λ r. ⌜ tagged r (now (lists .exit)) (now (out .exit)) ≡ element closing (name-of (now (name .entry))) (state-of self (now (lists .entry)) (now (out .entry))) ⌝ }
     {
         let tag = tag_of(name);
         let named = tag_skip(tag);
         let skip = self.skip;
-        if skip_no(skip) == 0 {
-            if closing {
-                return self.tag(out, tag, closing);
+        if skip_no(skip) != 0 {
+            if closing & (skip_no(skip) == skip_no(named)) {
+                self = self.skipping(Skip::Nothing);
             }
-            if skip_no(named) == 0 {
-                return self.tag(out, tag, closing);
-            }
+            return Tagged {
+                ok: true,
+                state: self,
+            };
+        }
+        if !closing & (skip_no(named) != 0) {
             self = self.skipping(named);
             return Tagged {
                 ok: true,
                 state: self,
             };
         }
-        if !closing {
-            return Tagged {
-                ok: true,
-                state: self,
-            };
-        }
-        if skip_no(skip) != skip_no(named) {
-            return Tagged {
-                ok: true,
-                state: self,
-            };
-        }
-        self = self.skipping(Skip::Nothing);
-        Tagged {
-            ok: true,
-            state: self,
-        }
+        self.tag(lists, out, tag, closing)
     }
 
     // What stands between `<` and `>`, trimmed.
-    fn inside(self, out: &mut [u8], inner: &[u8]) -> Tagged
-        requires { ⌜ self .depth ≤ 64 ⌝ }
+    fn inside(self, lists: &mut [usize], out: &mut [u8], inner: &[u8]) -> Tagged
+        requires { ⌜ (self .depth ≤ 64) × (64 ≤ length (now lists)) ⌝ }
         requires { ⌜ self .len + 149 ≤ length (now out) ⌝ }
-        requires { ⌜ number (lists-of self) + 1 < 2 ^ 64 ⌝ }
-        ensures { λ r. ⌜ tagged r (now (out .exit)) ≡ inside (chars (now (inner .entry))) (state-of self (now (out .entry))) ⌝ }
+        requires { ⌜ number (lists-of self (now lists)) + 1 < 2 ^ 64 ⌝ }
+        ensures { λ r. ⌜ tagged r (now (lists .exit)) (now (out .exit)) ≡ inside (chars (now (inner .entry))) (state-of self (now (lists .entry)) (now (out .entry))) ⌝ }
     {
-        if inner.len() == 0 {
-            return self.element(out, inner, false);
-        }
-        if inner[0] == b'/' {
-            return self.element(out, &inner[1..], true);
-        }
-        self.element(out, inner, false)
+        let closing = text::starts_with(inner, 0, b"/");
+        self.element(lists, out, text::past(inner, closing as usize), closing)
     }
 
     // Text, unless it is skipped.
     fn words(self, out: &mut [u8], raw: &[u8]) -> Self
         requires { ⌜ (self .len + 2 + 2 * length (now raw) ≤ length (now out)) × Scalars (chars (now raw)) ⌝ }
-        ensures { λ r. ⌜ state-of r (now (out .exit)) ≡ words (chars (now (raw .entry))) (state-of self (now (out .entry))) ⌝ }
+        ensures { λ r. ⌜ ((l : List ℕ) → state-of r l (now (out .exit)) ≡ words (chars (now (raw .entry))) (state-of self l (now (out .entry)))) ⌝ }
     {
         let skip = self.skip;
         if skip_no(skip) == 0 {
@@ -107,12 +85,12 @@ impl Converter {
     }
 
     // One turn: the text up to a `<`, and the comment or the tag that starts there.
-    fn turn(self, out: &mut [u8], html: &[u8], at: usize) -> Turned
+    fn turn(self, lists: &mut [usize], out: &mut [u8], html: &[u8], at: usize) -> Turned
         requires { ⌜ (at < length (now html)) × Scalars (chars (drop at (now html))) ⌝ }
-        requires { ⌜ self .depth ≤ 64 ⌝ }
+        requires { ⌜ (self .depth ≤ 64) × (64 ≤ length (now lists)) ⌝ }
         requires { ⌜ self .len + 151 + 2 * length (now html) ≤ length (now out) ⌝ }
-        requires { ⌜ number (lists-of self) + 1 < 2 ^ 64 ⌝ }
-        ensures { λ r. ⌜ turned r (now (out .exit)) (now (html .entry)) ≡ left (chars (drop at (now (html .entry)))) (turn (chars (drop at (now (html .entry)))) (state-of self (now (out .entry)))) ⌝ }
+        requires { ⌜ number (lists-of self (now lists)) + 1 < 2 ^ 64 ⌝ }
+        ensures { λ r. ⌜ turned r (now (lists .exit)) (now (out .exit)) (now (html .entry)) ≡ left (chars (drop at (now (html .entry)))) (turn (chars (drop at (now (html .entry)))) (state-of self (now (lists .entry)) (now (out .entry)))) ⌝ }
         ensures { λ r. ⌜ (at < r .next) × (r .next ≤ length (now (html .entry))) ⌝ }
     {
         let Found::Here(lt) = text::find(html, at, b'<') else {
@@ -141,7 +119,7 @@ impl Converter {
             };
         };
         let from = lt + 1;
-        let t = c.inside(out, text::trim(&html[from..gt]));
+        let t = c.inside(lists, out, text::trim(&html[from..gt]));
         let s = t.state;
         Turned {
             ok: t.ok,
@@ -151,36 +129,28 @@ impl Converter {
     }
 }
 
-// How many bytes of a page are read: at most 1,048,576, fewer if a character would be split.
-pub(crate) fn read_len(page: &[u8]) -> usize
-    ensures { λ r. ⌜ r ≡ length (encode (cut 1048576 (chars (now (page .entry))))) ⌝ }
-{
-    let n = page.len();
-    if n <= Converter::MAX_HTML {
-        return n;
-    }
-    text::cut_len(page, Converter::MAX_HTML)
-}
-
 // Where a comment ends: after the first `-->` from i on, or at the end of the page.
 fn comment_end(html: &[u8], i: usize) -> usize
     requires { ⌜ i ≤ length (now html) ⌝ }
     ensures { λ r. ⌜ (drop r (now (html .entry)) ≡ closed (drop i (now (html .entry)))) × ((i ≤ r) × (r ≤ length (now (html .entry)))) ⌝ }
 {
     let mut j = i;
-    while j < html.len() {
-        if text::starts_with(html, j, b"-->") {
-            return j + 3;
+    loop {
+        let Found::Here(dash) = text::find(html, j, b'-') else {
+            return html.len();
+        };
+        if text::starts_with(html, dash, b"-->") {
+            return dash + 3;
         }
-        j += 1;
+        j = dash + 1;
     }
-    j
 }
 
 // All turns, until the page or the room for notes is used up.
-pub(crate) fn convert(out: &mut [u8], html: &[u8]) -> Tagged
+pub(crate) fn convert(lists: &mut [usize], out: &mut [u8], html: &[u8]) -> Tagged
     requires { ⌜ (2 * length (now html) + 16384 ≤ length (now out)) × Scalars (chars (now html)) ⌝ }
-    ensures { λ r. ⌜ tagged r (now (out .exit)) ≡ loop 0 (chars (now (html .entry))) new ⌝ }
+    requires { ⌜ 64 ≤ length (now lists) ⌝ }
+    ensures { λ r. ⌜ tagged r (now (lists .exit)) (now (out .exit)) ≡ loop 0 (chars (now (html .entry))) new ⌝ }
     ensures { λ r. ⌜ (r .ok ≡ true → r .state .len ≤ length (now (out .exit))) ⌝ }
 {
     let mut c = Converter::new();
@@ -189,7 +159,7 @@ pub(crate) fn convert(out: &mut [u8], html: &[u8]) -> Tagged
         if Converter::MAX_OUT <= c.len {
             return Tagged { ok: true, state: c };
         }
-        let t = c.turn(out, html, at);
+        let t = c.turn(lists, out, html, at);
         let s = t.state;
         if !t.ok {
             return Tagged {

@@ -5,6 +5,10 @@ use crate::Tag;
 use crate::Tagged;
 use crate::output::ends_blank;
 use crate::output::line_start;
+use crate::output::push;
+use crate::output::push_all;
+use crate::output::push_number;
+use crate::output::push_times;
 use crate::output::spaced;
 use crate::output::unspaced;
 ghost use mathlib.Core.Path.{_≡_};
@@ -15,13 +19,20 @@ ghost use lib.ListN.{length};
 ghost use Rattle.text.proofs.AsciiLaws.{Ascii};
 ghost use Rattle.html.specs.State.{block, newline, list-changed, item, tag, with-lists, pre, br, li, tr, cell, code};
 ghost use Rattle.html.specs.Page.{listed};
-ghost use Rattle.html.specs.Struct.{state-of, lists-of, number, marks-of, step-means, tag-means, tagged, heading-of, ended, list-tag};
+ghost use Rattle.html.specs.Struct.{state-of, lists-of, number, marks-of, step-means, tag-means, tagged, heading-of, level-of, ended, list-tag};
+
+// A heading's level, 3 at most.
+fn level_of(level: usize) -> usize
+    ensures { λ r. ⌜ r ≡ level-of level ⌝ }
+{
+    if level < 3 { level } else { 3 }
+}
 
 impl Converter {
     // A blank line before the next block.
     pub(crate) fn block(mut self, out: &mut [u8]) -> Self
         requires { ⌜ self .len + 2 ≤ length (now out) ⌝ }
-        ensures { λ r. ⌜ state-of r (now (out .exit)) ≡ block (state-of self (now (out .entry))) ⌝ }
+        ensures { λ r. ⌜ ((l : List ℕ) → state-of r l (now (out .exit)) ≡ block (state-of self l (now (out .entry)))) ⌝ }
     {
         let n = unspaced(out, self.len);
         self.len = n;
@@ -33,14 +44,18 @@ impl Converter {
             return self;
         }
         if line_start(out, n) {
-            return self.push(out, b'\n');
+            let m = push(out, n, b'\n');
+            self.len = m;
+            return self;
         }
-        self.push_all(out, b"\n\n")
+        let m = push_all(out, n, b"\n\n");
+        self.len = m;
+        self
     }
 
     pub(crate) fn newline(mut self, out: &mut [u8]) -> Self
         requires { ⌜ self .len + 1 ≤ length (now out) ⌝ }
-        ensures { λ r. ⌜ state-of r (now (out .exit)) ≡ newline (state-of self (now (out .entry))) ⌝ }
+        ensures { λ r. ⌜ ((l : List ℕ) → state-of r l (now (out .exit)) ≡ newline (state-of self l (now (out .entry)))) ⌝ }
     {
         let n = unspaced(out, self.len);
         self.len = n;
@@ -48,56 +63,39 @@ impl Converter {
         if line_start(out, n) {
             return self;
         }
-        self.push(out, b'\n')
+        let m = push(out, n, b'\n');
+        self.len = m;
+        self
     }
 
     pub(crate) fn marks(mut self, out: &mut [u8], mark: &[u8], closing: bool) -> Self
         requires { ⌜ (self .len + 1 + length (now mark) ≤ length (now out)) × Ascii (now mark) ⌝ }
-        ensures { λ r. ⌜ state-of r (now (out .exit)) ≡ marks-of (now (mark .entry)) closing (state-of self (now (out .entry))) ⌝ }
+        ensures { λ r. ⌜ ((l : List ℕ) → state-of r l (now (out .exit)) ≡ marks-of (now (mark .entry)) closing (state-of self l (now (out .entry)))) ⌝ }
     {
         if closing {
-            return self.push_all(out, mark);
+            let m = push_all(out, self.len, mark);
+            self.len = m;
+            return self;
         }
         let n = spaced(out, self.len, self.space);
-        self.len = n;
         self.space = false;
-        self.push_all(out, mark)
-    }
-
-    // What the innermost list has counted: 0 for `ul`, and where none is open.
-    pub(crate) fn number(self) -> usize
-        requires { ⌜ self .depth ≤ 64 ⌝ }
-        ensures { λ r. ⌜ r ≡ number (lists-of self) ⌝ }
-    {
-        let d = self.depth;
-        if d == 0 {
-            return 0;
-        }
-        self.lists[d - 1]
-    }
-
-    // Another number for the innermost list.
-    pub(crate) fn counted(mut self, n: usize) -> Self
-        requires { ⌜ (0 < self .depth) × (self .depth ≤ 64) ⌝ }
-        ensures { λ r. ⌜ ((w : List ℕ) → state-of r w ≡ with-lists (n ∷ tail (lists-of self)) (state-of self w)) ⌝ }
-    {
-        let d = self.depth;
-        self.lists[d - 1] = n;
+        let m = push_all(out, n, mark);
+        self.len = m;
         self
     }
 
-    pub(crate) fn opened(mut self, first: usize) -> Self
-        requires { ⌜ self .depth < 64 ⌝ }
-        ensures { λ r. ⌜ ((w : List ℕ) → state-of r w ≡ with-lists (first ∷ lists-of self) (state-of self w)) ⌝ }
+    fn opened(mut self, lists: &mut [usize], first: usize) -> Self
+        requires { ⌜ (self .depth < 64) × (64 ≤ length (now lists)) ⌝ }
+        ensures { λ r. ⌜ ((w : List ℕ) → state-of r (now (lists .exit)) w ≡ with-lists (first ∷ lists-of self (now (lists .entry))) (state-of self (now (lists .entry)) w)) ⌝ }
     {
         let d = self.depth;
-        self.lists[d] = first;
+        lists[d] = first;
         self.depth = d + 1;
         self
     }
 
-    pub(crate) fn closed(mut self) -> Self
-        ensures { λ r. ⌜ ((w : List ℕ) → state-of r w ≡ with-lists (tail (lists-of self)) (state-of self w)) ⌝ }
+    fn closed(mut self) -> Self
+        ensures { λ r. ⌜ ((l w : List ℕ) → state-of r l w ≡ with-lists (tail (lists-of self l)) (state-of self l w)) ⌝ }
     {
         let d = self.depth;
         if d == 0 {
@@ -108,30 +106,36 @@ impl Converter {
     }
 
     // An item's marker, after two spaces for each list around the innermost.
-    pub(crate) fn item(mut self, out: &mut [u8]) -> Self
-        requires { ⌜ self .depth ≤ 64 ⌝ }
+    fn item(mut self, lists: &mut [usize], out: &mut [u8]) -> Self
+        requires { ⌜ (self .depth ≤ 64) × (64 ≤ length (now lists)) ⌝ }
         requires { ⌜ self .len + 148 ≤ length (now out) ⌝ }
-        requires { ⌜ number (lists-of self) + 1 < 2 ^ 64 ⌝ }
-        ensures { λ r. ⌜ state-of r (now (out .exit)) ≡ item (lists-of self) (state-of self (now (out .entry))) ⌝ }
+        requires { ⌜ number (lists-of self (now lists)) + 1 < 2 ^ 64 ⌝ }
+        ensures { λ r. ⌜ state-of r (now (lists .exit)) (now (out .exit)) ≡ item (lists-of self (now (lists .entry))) (state-of self (now (lists .entry)) (now (out .entry))) ⌝ }
     {
         let d = self.depth;
         if d == 0 {
-            return self.push_all(out, b"- ");
+            let m = push_all(out, self.len, b"- ");
+            self.len = m;
+            return self;
         }
-        let n = self.number();
-        self = self.push_times(out, b' ', 2 * (d - 1));
+        let n = lists[d - 1];
+        let indented = push_times(out, self.len, b' ', 2 * (d - 1));
         if n == 0 {
-            return self.push_all(out, b"- ");
+            let m = push_all(out, indented, b"- ");
+            self.len = m;
+            return self;
         }
-        self = self.push_number(out, n);
-        self = self.push_all(out, b". ");
-        self.counted(n + 1)
+        let numbered = push_number(out, indented, n);
+        let m = push_all(out, numbered, b". ");
+        self.len = m;
+        lists[d - 1] = n + 1;
+        self
     }
 
     // A new line after a list opened or closed, a blank one where none is open.
-    pub(crate) fn changed(mut self, out: &mut [u8]) -> Self
+    fn changed(mut self, out: &mut [u8]) -> Self
         requires { ⌜ self .len + 3 ≤ length (now out) ⌝ }
-        ensures { λ r. ⌜ state-of r (now (out .exit)) ≡ list-changed (lists-of self) (state-of self (now (out .entry))) ⌝ }
+        ensures { λ r. ⌜ ((l : List ℕ) → state-of r l (now (out .exit)) ≡ list-changed (lists-of self l) (state-of self l (now (out .entry)))) ⌝ }
     {
         let d = self.depth;
         self = self.newline(out);
@@ -142,10 +146,10 @@ impl Converter {
     }
 
     // `ul` and `ol`: first is 0 or 1.
-    pub(crate) fn list(mut self, out: &mut [u8], first: usize, closing: bool) -> Tagged
-        requires { ⌜ self .depth ≤ 64 ⌝ }
+    fn list(mut self, lists: &mut [usize], out: &mut [u8], first: usize, closing: bool) -> Tagged
+        requires { ⌜ (self .depth ≤ 64) × (64 ≤ length (now lists)) ⌝ }
         requires { ⌜ self .len + 3 ≤ length (now out) ⌝ }
-        ensures { λ r. ⌜ tagged r (now (out .exit)) ≡ list-tag first closing (state-of self (now (out .entry))) ⌝ }
+        ensures { λ r. ⌜ tagged r (now (lists .exit)) (now (out .exit)) ≡ list-tag first closing (state-of self (now (lists .entry)) (now (out .entry))) ⌝ }
     {
         if closing {
             self = self.closed();
@@ -161,7 +165,7 @@ impl Converter {
                 state: self,
             };
         }
-        self = self.opened(first);
+        self = self.opened(lists, first);
         self = self.changed(out);
         Tagged {
             ok: true,
@@ -169,44 +173,43 @@ impl Converter {
         }
     }
 
-    pub(crate) fn heading(mut self, out: &mut [u8], level: usize, closing: bool) -> Self
+    fn heading(mut self, out: &mut [u8], level: usize, closing: bool) -> Self
         requires { ⌜ self .len + 6 ≤ length (now out) ⌝ }
-        ensures { λ r. ⌜ state-of r (now (out .exit)) ≡ heading-of level closing (state-of self (now (out .entry))) ⌝ }
+        ensures { λ r. ⌜ ((l : List ℕ) → state-of r l (now (out .exit)) ≡ heading-of level closing (state-of self l (now (out .entry)))) ⌝ }
     {
         self = self.block(out);
         if closing {
             return self;
         }
-        if level < 3 {
-            self = self.push_times(out, b'#', level);
-            return self.push(out, b' ');
-        }
-        self = self.push_times(out, b'#', 3);
-        self.push(out, b' ')
+        let n = push_times(out, self.len, b'#', level_of(level));
+        let m = push(out, n, b' ');
+        self.len = m;
+        self
     }
 
     // Text that ends a pending space.
-    pub(crate) fn ended(mut self, out: &mut [u8], bytes: &[u8]) -> Self
+    fn ended(mut self, out: &mut [u8], bytes: &[u8]) -> Self
         requires { ⌜ (self .len + length (now bytes) ≤ length (now out)) × Ascii (now bytes) ⌝ }
-        ensures { λ r. ⌜ state-of r (now (out .exit)) ≡ ended (now (bytes .entry)) (state-of self (now (out .entry))) ⌝ }
+        ensures { λ r. ⌜ ((l : List ℕ) → state-of r l (now (out .exit)) ≡ ended (now (bytes .entry)) (state-of self l (now (out .entry)))) ⌝ }
     {
-        self = self.push_all(out, bytes);
+        let m = push_all(out, self.len, bytes);
+        self.len = m;
         self.space = false;
         self
     }
 
-    pub(crate) fn pre_tag(mut self, out: &mut [u8], closing: bool) -> Self
+    fn pre_tag(mut self, out: &mut [u8], closing: bool) -> Self
         requires { ⌜ self .len + 2 ≤ length (now out) ⌝ }
-        ensures { λ r. ⌜ state-of r (now (out .exit)) ≡ tag pre closing (state-of self (now (out .entry))) ⌝ }
+        ensures { λ r. ⌜ ((l : List ℕ) → state-of r l (now (out .exit)) ≡ tag pre closing (state-of self l (now (out .entry)))) ⌝ }
     {
         self = self.block(out);
         self.pre = !closing;
         self
     }
 
-    pub(crate) fn line_break(self, out: &mut [u8], closing: bool) -> Self
+    fn line_break(self, out: &mut [u8], closing: bool) -> Self
         requires { ⌜ self .len + 1 ≤ length (now out) ⌝ }
-        ensures { λ r. ⌜ state-of r (now (out .exit)) ≡ tag br closing (state-of self (now (out .entry))) ⌝ }
+        ensures { λ r. ⌜ ((l : List ℕ) → state-of r l (now (out .exit)) ≡ tag br closing (state-of self l (now (out .entry)))) ⌝ }
     {
         if closing {
             return self;
@@ -214,22 +217,22 @@ impl Converter {
         self.ended(out, b"\n")
     }
 
-    pub(crate) fn list_item(mut self, out: &mut [u8], closing: bool) -> Self
-        requires { ⌜ self .depth ≤ 64 ⌝ }
+    fn list_item(mut self, lists: &mut [usize], out: &mut [u8], closing: bool) -> Self
+        requires { ⌜ (self .depth ≤ 64) × (64 ≤ length (now lists)) ⌝ }
         requires { ⌜ self .len + 149 ≤ length (now out) ⌝ }
-        requires { ⌜ number (lists-of self) + 1 < 2 ^ 64 ⌝ }
-        ensures { λ r. ⌜ state-of r (now (out .exit)) ≡ tag li closing (state-of self (now (out .entry))) ⌝ }
+        requires { ⌜ number (lists-of self (now lists)) + 1 < 2 ^ 64 ⌝ }
+        ensures { λ r. ⌜ state-of r (now (lists .exit)) (now (out .exit)) ≡ tag li closing (state-of self (now (lists .entry)) (now (out .entry))) ⌝ }
     {
         if closing {
             return self;
         }
         self = self.newline(out);
-        self.item(out)
+        self.item(lists, out)
     }
 
-    pub(crate) fn row(self, out: &mut [u8], closing: bool) -> Self
+    fn row(self, out: &mut [u8], closing: bool) -> Self
         requires { ⌜ self .len + 1 ≤ length (now out) ⌝ }
-        ensures { λ r. ⌜ state-of r (now (out .exit)) ≡ tag tr closing (state-of self (now (out .entry))) ⌝ }
+        ensures { λ r. ⌜ ((l : List ℕ) → state-of r l (now (out .exit)) ≡ tag tr closing (state-of self l (now (out .entry)))) ⌝ }
     {
         if closing {
             return self.newline(out);
@@ -237,9 +240,9 @@ impl Converter {
         self
     }
 
-    pub(crate) fn cell(self, out: &mut [u8], closing: bool) -> Self
+    fn cell(self, out: &mut [u8], closing: bool) -> Self
         requires { ⌜ self .len + 3 ≤ length (now out) ⌝ }
-        ensures { λ r. ⌜ state-of r (now (out .exit)) ≡ tag cell closing (state-of self (now (out .entry))) ⌝ }
+        ensures { λ r. ⌜ ((l : List ℕ) → state-of r l (now (out .exit)) ≡ tag cell closing (state-of self l (now (out .entry)))) ⌝ }
     {
         if closing {
             return self.ended(out, b" | ");
@@ -247,9 +250,9 @@ impl Converter {
         self
     }
 
-    pub(crate) fn code(self, out: &mut [u8], closing: bool) -> Self
+    fn code(self, out: &mut [u8], closing: bool) -> Self
         requires { ⌜ self .len + 2 ≤ length (now out) ⌝ }
-        ensures { λ r. ⌜ state-of r (now (out .exit)) ≡ tag code closing (state-of self (now (out .entry))) ⌝ }
+        ensures { λ r. ⌜ ((l : List ℕ) → state-of r l (now (out .exit)) ≡ tag code closing (state-of self l (now (out .entry)))) ⌝ }
     {
         if self.pre {
             return self;
@@ -258,18 +261,18 @@ impl Converter {
     }
 
     // A tag that only writes.
-    pub(crate) fn step(self, out: &mut [u8], step: Step, closing: bool) -> Self
-        requires { ⌜ self .depth ≤ 64 ⌝ }
+    fn step(self, lists: &mut [usize], out: &mut [u8], step: Step, closing: bool) -> Self
+        requires { ⌜ (self .depth ≤ 64) × (64 ≤ length (now lists)) ⌝ }
         requires { ⌜ self .len + 149 ≤ length (now out) ⌝ }
-        requires { ⌜ number (lists-of self) + 1 < 2 ^ 64 ⌝ }
-        ensures { λ r. ⌜ state-of r (now (out .exit)) ≡ tag (step-means step) closing (state-of self (now (out .entry))) ⌝ }
+        requires { ⌜ number (lists-of self (now lists)) + 1 < 2 ^ 64 ⌝ }
+        ensures { λ r. ⌜ state-of r (now (lists .exit)) (now (out .exit)) ≡ tag (step-means step) closing (state-of self (now (lists .entry)) (now (out .entry))) ⌝ }
     {
         match step {
             Step::Heading(level) => self.heading(out, level, closing),
             Step::Block => self.block(out),
             Step::Pre => self.pre_tag(out, closing),
             Step::Break => self.line_break(out, closing),
-            Step::Item => self.list_item(out, closing),
+            Step::Item => self.list_item(lists, out, closing),
             Step::Row => self.row(out, closing),
             Step::Cell => self.cell(out, closing),
             Step::Strong => self.marks(out, b"**", closing),
@@ -279,22 +282,28 @@ impl Converter {
         }
     }
 
-    // A tag's step.
-    pub(crate) fn tag(mut self, out: &mut [u8], tag: Tag, closing: bool) -> Tagged
-        requires { ⌜ self .depth ≤ 64 ⌝ }
+    // A tag's step. The numbers of the open lists are lent beside the state.
+    pub(crate) fn tag(
+        mut self,
+        lists: &mut [usize],
+        out: &mut [u8],
+        tag: Tag,
+        closing: bool,
+    ) -> Tagged
+        requires { ⌜ (self .depth ≤ 64) × (64 ≤ length (now lists)) ⌝ }
         requires { ⌜ self .len + 149 ≤ length (now out) ⌝ }
-        requires { ⌜ number (lists-of self) + 1 < 2 ^ 64 ⌝ }
-        ensures { λ r. ⌜ tagged r (now (out .exit)) ≡ listed (tag-means tag) closing (state-of self (now (out .entry))) ⌝ }
+        requires { ⌜ number (lists-of self (now lists)) + 1 < 2 ^ 64 ⌝ }
+        ensures { λ r. ⌜ tagged r (now (lists .exit)) (now (out .exit)) ≡ listed (tag-means tag) closing (state-of self (now (lists .entry)) (now (out .entry))) ⌝ }
     {
         match tag {
-            Tag::Ul => self.list(out, 0, closing),
-            Tag::Ol => self.list(out, 1, closing),
+            Tag::Ul => self.list(lists, out, 0, closing),
+            Tag::Ol => self.list(lists, out, 1, closing),
             Tag::Skipped(_) => Tagged {
                 ok: true,
                 state: self,
             },
             Tag::Writes(step) => {
-                self = self.step(out, step, closing);
+                self = self.step(lists, out, step, closing);
                 Tagged {
                     ok: true,
                     state: self,

@@ -6,7 +6,8 @@ use crate::output::put_char;
 use crate::output::spaced;
 use reference::Ampersand;
 ghost use mathlib.Core.Path.{_≡_};
-ghost use Prim.Native.Nat.{_+_, _*_, _≤_, _<_};
+ghost use Prim.Native.Nat.{ℕ, _+_, _*_, _≤_, _<_};
+ghost use mathlib.Core.List.{List};
 ghost use mathlib.Core.Bool.{true, false};
 ghost use Rattle.text.specs.Chars.{is-alphanumeric};
 ghost use lib.ListN.{length, drop};
@@ -199,7 +200,7 @@ fn ink(pen: Pen, out: &mut [u8], raw: &[u8], pre: bool) -> Pen
 impl Converter {
     pub(crate) fn text(mut self, out: &mut [u8], raw: &[u8]) -> Self
         requires { ⌜ (self .len + 2 + 2 * length (now raw) ≤ length (now out)) × Scalars (chars (now raw)) ⌝ }
-        ensures { λ r. ⌜ state-of r (now (out .exit)) ≡ text (chars (now (raw .entry))) (state-of self (now (out .entry))) ⌝ }
+        ensures { λ r. ⌜ ((l : List ℕ) → state-of r l (now (out .exit)) ≡ text (chars (now (raw .entry))) (state-of self l (now (out .entry)))) ⌝ }
     {
         let pen = Pen {
             len: self.len,

@@ -3,6 +3,10 @@
 use mathlib.Core.Path.{_≡_, refl, sym, ap, _∙_}
 use native.Mathlib.Omega.{arith}
 use denote.Ref.{now}
+use Prim.Native.Nat.{ℕ}
+use mathlib.Core.List.{List}
+use mathlib.Core.Bool.{false}
+use Rattle.html.specs.State.{with-out}
 use Rattle.html.specs.Struct.{state-of}
 use Rattle.html.proofs.GrowLaws.{unspaced-most}
 use Rattle.html.proofs.StepLaws.{empty-yes, empty-no, cleared, block-none, block-blank, block-feed, block-two}
@@ -11,8 +15,8 @@ use Rattle.html.proofs.Converter.block.Statement.{statement}
 use Rattle.html.proofs.Converter.block.Tie as tie
 use Rattle.html.proofs.Converter.block.Reads as reads
 use Rattle.html.proofs.Converter.block.Lts as lts
-use Rattle.html.proofs.Converter.push.Reads as push-reads
-use Rattle.html.proofs.Converter.push_all.Reads as push-all-reads
+use Rattle.html.proofs.output.push.Reads as push-reads
+use Rattle.html.proofs.output.push_all.Reads as push-all-reads
 use Rattle.html.proofs.output.ends_blank.Reads as ends-blank-reads
 use Rattle.html.proofs.output.line_start.Reads as line-start-reads
 use Rattle.html.proofs.output.unspaced.Reads as unspaced-reads
@@ -28,7 +32,8 @@ unfolding state-of
 returns c =
     let w = now (c .before .before .before .before .args .out) in
     let n = c .before .unspaced .result in
-    let e = cleared (c .before .before .before .before .args .self) n w (c .before .unspaced .ensures) in
+    λ l.
+    let e = cleared (c .before .before .before .before .args .self) n l w (c .before .unspaced .ensures) in
     block-none _ _ e (empty-yes n w (c .if1 .taken))
 
 ends-blank-requires : tie.Need-ends-blank-requires
@@ -44,7 +49,8 @@ unfolding state-of
 returns-2 c =
     let w = now (c .before .before .before .before .before .before .before .args .out) in
     let n = c .before .before .before .before .unspaced .result in
-    let e = cleared (c .before .before .before .before .before .before .before .args .self) n w (c .before .before .before .before .unspaced .ensures) in
+    λ l.
+    let e = cleared (c .before .before .before .before .before .before .before .args .self) n l w (c .before .before .before .before .unspaced .ensures) in
     block-blank _ _ e (empty-no n w (c .before .before .before .if1 .left)) (sym (c .before .ends-blank .ensures) ∙ c .if2 .taken)
 
 line-start-requires : tie.Need-line-start-requires
@@ -65,8 +71,9 @@ unfolding state-of
 returns-3 c =
     let w = now (c .before .before .before .before .before .before .before .before .before .before .before .before .before .before .args .out) in
     let n = c .before .before .before .before .before .before .before .before .before .before .before .unspaced .result in
-    let e = cleared (c .before .before .before .before .before .before .before .before .before .before .before .before .before .before .args .self) n w (c .before .before .before .before .before .before .before .before .before .before .before .unspaced .ensures) in
-    c .before .before .push .ensures
+    λ l.
+    let e = cleared (c .before .before .before .before .before .before .before .before .before .before .before .before .before .before .args .self) n l w (c .before .before .before .before .before .before .before .before .before .before .before .unspaced .ensures) in
+    ap (λ (o : List ℕ). with-out o false (state-of (c .before .before .before .before .before .before .before .before .before .before .before .before .before .before .args .self) l w)) (c .before .before .push .ensures)
     ∙ block-feed _ _ e (empty-no n w (c .before .before .before .before .before .before .before .before .before .before .if1 .left)) (sym (c .before .before .before .before .before .before .before .before .ends-blank .ensures) ∙ c .before .before .before .before .before .before .before .if2 .left) (sym (c .before .before .before .before .before .line-start .ensures) ∙ c .before .before .before .before .if3 .taken)
 
 slice-aggregate-push-all : tie.Need-slice-aggregate-push-all
@@ -85,8 +92,9 @@ unfolding state-of
 returns-4 c =
     let w = now (c .before .before .before .before .before .before .before .before .before .before .before .before .before .before .before .args .out) in
     let n = c .before .before .before .before .before .before .before .before .before .before .before .before .unspaced .result in
-    let e = cleared (c .before .before .before .before .before .before .before .before .before .before .before .before .before .before .before .args .self) n w (c .before .before .before .before .before .before .before .before .before .before .before .before .unspaced .ensures) in
-    c .before .before .push-all .ensures
+    λ l.
+    let e = cleared (c .before .before .before .before .before .before .before .before .before .before .before .before .before .before .before .args .self) n l w (c .before .before .before .before .before .before .before .before .before .before .before .before .unspaced .ensures) in
+    ap (λ (o : List ℕ). with-out o false (state-of (c .before .before .before .before .before .before .before .before .before .before .before .before .before .before .before .args .self) l w)) (c .before .before .push-all .ensures)
     ∙ block-two _ _ e (empty-no n w (c .before .before .before .before .before .before .before .before .before .before .before .if1 .left)) (sym (c .before .before .before .before .before .before .before .before .before .ends-blank .ensures) ∙ c .before .before .before .before .before .before .before .before .if2 .left) (sym (c .before .before .before .before .before .before .line-start .ensures) ∙ c .before .before .before .before .before .if3 .left)
 
 pub block-spec : {M : Type 1} → statement M

@@ -30,9 +30,10 @@ returns : tie.Need-returns
 unfolding state-of
 returns c =
     let a = c .before .before .before .before .before .before .before .before .before .before .args in
-    c .before .before .block .ensures
-    ∙ ap block (c .before .before .before .before .before .before .before .newline .ensures)
-    ∙ changed-none (lists-of (a .self)) (state-of (a .self) (now (a .out))) (none-of (a .self) (c .before .before .before .before .if1 .taken))
+    λ l.
+    c .before .before .block .ensures l
+    ∙ ap block (c .before .before .before .before .before .before .before .newline .ensures l)
+    ∙ changed-none (lists-of (a .self) l) (state-of (a .self) l (now (a .out))) (none-of (a .self) l (c .before .before .before .before .if1 .taken))
 
 same-length-2 : tie.Need-same-length-2
 same-length-2 c = search needs
@@ -41,8 +42,9 @@ returns-2 : tie.Need-returns-2
 unfolding state-of
 returns-2 c =
     let a = c .before .before .before .before .before .before .args in
-    c .before .before .before .newline .ensures
-    ∙ changed-some (lists-of (a .self)) (state-of (a .self) (now (a .out))) (some-of (a .self) (c .if1 .left))
+    λ l.
+    c .before .before .before .newline .ensures l
+    ∙ changed-some (lists-of (a .self) l) (state-of (a .self) l (now (a .out))) (some-of (a .self) l (c .if1 .left))
 
 pub changed-spec : {M : Type 1} → statement M
 changed-spec =

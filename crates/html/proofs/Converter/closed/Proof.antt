@@ -18,7 +18,7 @@ returns : tie.Need-returns
 unfolding state-of
 returns c =
     let a = c .before .args .self in
-    λ w. ap (λ (l : List ℕ). with-lists l (state-of a w)) (rw (c .if1 .taken) refl)
+    λ l w. ap (λ (x : List ℕ). with-lists x (state-of a l w)) (rw (c .if1 .taken) refl)
 
 sub-self : tie.Need-sub-self
 sub-self c = search needs
@@ -27,7 +27,7 @@ returns-2 : tie.Need-returns-2
 unfolding state-of
 returns-2 c =
     let a = c .before .args .self in
-    λ w. ap (λ (l : List ℕ). with-lists l (state-of a w)) (sym (ap tail (upto-last (a .depth) (a .lists) (omega arith))))
+    λ l w. ap (λ (x : List ℕ). with-lists x (state-of a l w)) (sym (ap tail (upto-last (a .depth) l (omega arith))))
 
 pub closed-spec : {M : Type 1} → statement M
 closed-spec = tie.close (tie.spec returns sub-self returns-2)

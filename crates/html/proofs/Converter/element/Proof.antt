@@ -1,14 +1,15 @@
 -- `Converter::element` meets its contract.
 -- Assumes nothing.
-use mathlib.Core.Path.{_≡_, refl, sym, ap, _∙_}
+use mathlib.Core.Path.{_≡_, refl, sym, ap, ap₂, _∙_}
+use mathlib.Core.Bool.{Bool, not, _&&_}
 use denote.Ref.{now}
+use Prim.Native.Nat.{ℕ}
 use mathlib.Core.Option.{some}
-use borrow.Author.Tests.{not-true, not-false}
-use Rattle.html.specs.Struct.{state-of, skip-name, tagged}
-use Rattle.html.specs.Names.{name-of, skip-no}
+use lib.Dec.{eqb}
 use Rattle.html.specs.State.{with-skip}
-use Rattle.html.proofs.SkipLaws.{element-closes, element-tag, element-skips, element-stays, element-other, element-ends}
-use Rattle.html.specs.declared.Skip.{Skip}
+use Rattle.html.specs.Struct.{state-of, tagged, skip-name}
+use Rattle.html.specs.Names.{name-of, skip-no, tag-skip}
+use Rattle.html.proofs.SkipLaws.{element-tag, element-skips, element-stays, element-ends}
 use borrow.Author.Needs.{needs}
 use Rattle.html.proofs.Converter.element.Statement.{statement}
 use Rattle.html.proofs.Converter.element.Tie as tie
@@ -29,110 +30,69 @@ tag-skip-requires c κs = search needs
 skip-no-requires : tie.Need-skip-no-requires
 skip-no-requires c κs = search needs
 
+skip-no-requires-2 : tie.Need-skip-no-requires-2
+skip-no-requires-2 c κs = search needs
+
+skip-no-requires-3 : tie.Need-skip-no-requires-3
+skip-no-requires-3 c κs = search needs
+
+skipping-requires : tie.Need-skipping-requires
+skipping-requires c κs = search needs
+
+returns : tie.Need-returns
+unfolding state-of tagged
+returns c =
+    let a = c .before .before .before .before .before .before .before .before .before .before .before .args in
+    let s = state-of (a .self) (now (a .lists)) (now (a .out)) in
+    let t = c .before .before .before .before .before .before .before .tag-of in
+    let z : skip-no (a .self .skip) ≡ 0 → ⊥ = λ e. c .before .before .before .before .if1 .taken (c .before .before .before .before .before .skip-no .ensures ∙ e) in
+    let h = ap₂ (λ (x y : ℕ). a .closing && eqb x y) (sym (c .before .before .before .skip-no2 .ensures)) (sym (c .before .before .skip-no3 .ensures ∙ ap skip-no (c .before .before .before .before .before .before .tag-skip .ensures))) ∙ c .before .if2 .taken in
+    ap some (c .skipping .ensures _ _) ∙ element-ends (name-of (now (a .name))) s (t .result) (t .ensures) (a .self .skip) refl z (a .closing) h
+
+returns-2 : tie.Need-returns-2
+unfolding state-of tagged
+returns-2 c =
+    let a = c .before .before .before .before .before .before .before .before .before .before .args in
+    let s = state-of (a .self) (now (a .lists)) (now (a .out)) in
+    let t = c .before .before .before .before .before .before .tag-of in
+    let z : skip-no (a .self .skip) ≡ 0 → ⊥ = λ e. c .before .before .before .if1 .taken (c .before .before .before .before .skip-no .ensures ∙ e) in
+    let h = ap₂ (λ (x y : ℕ). a .closing && eqb x y) (sym (c .before .before .skip-no2 .ensures)) (sym (c .before .skip-no3 .ensures ∙ ap skip-no (c .before .before .before .before .before .tag-skip .ensures))) ∙ c .if2 .left in
+    element-stays (name-of (now (a .name))) s (t .result) (t .ensures) (a .self .skip) refl z (a .closing) h
+
+skip-no-requires-4 : tie.Need-skip-no-requires-4
+skip-no-requires-4 c κs = search needs
+
+skipping-requires-2 : tie.Need-skipping-requires-2
+skipping-requires-2 c κs = search needs
+
+returns-3 : tie.Need-returns-3
+unfolding state-of tagged
+returns-3 c =
+    let a = c .before .before .before .before .before .before .before .before .before .before .args in
+    let s = state-of (a .self) (now (a .lists)) (now (a .out)) in
+    let t = c .before .before .before .before .before .before .tag-of in
+    let z = sym (c .before .before .before .before .skip-no .ensures) ∙ c .before .before .before .if1 .left in
+    let h = ap (λ (x : ℕ). not (a .closing) && not (eqb x 0)) (sym (c .before .before .skip-no4 .ensures ∙ ap skip-no (c .before .before .before .before .before .tag-skip .ensures))) ∙ c .before .if3 .taken in
+    ap some (c .skipping2 .ensures _ _ ∙ ap (λ k. with-skip (skip-name k) s) (c .before .before .before .before .before .tag-skip .ensures)) ∙ element-skips (name-of (now (a .name))) s (t .result) (t .ensures) (a .self .skip) refl z (a .closing) h
+
 tag-requires : tie.Need-tag-requires
 tag-requires c κs = search needs
 
 same-length : tie.Need-same-length
 same-length c = search needs
 
-returns : tie.Need-returns
-unfolding state-of
-returns c =
-    let a = c .before .before .before .before .before .before .before .before .before .before .before .args in
-    let n = name-of (now (a .name)) in
-    let s = state-of (a .self) (now (a .out)) in
-    let k = a .self .skip in
-    c .before .before .tag .ensures
-    ∙ element-closes n s k refl (sym (c .before .before .before .before .before .before .skip-no .ensures) ∙ c .before .before .before .before .before .if1 .taken) (a .closing) (c .before .before .before .before .before .before .before .before .tag-of .result) (c .before .before .before .before .before .before .before .before .tag-of .ensures) (c .before .before .before .before .if2 .taken)
-
-skip-no-requires-2 : tie.Need-skip-no-requires-2
-skip-no-requires-2 c κs = search needs
-
-tag-requires-2 : tie.Need-tag-requires-2
-tag-requires-2 c κs = search needs
-
 same-length-2 : tie.Need-same-length-2
 same-length-2 c = search needs
 
-returns-2 : tie.Need-returns-2
-unfolding state-of
-returns-2 c =
-    let a = c .before .before .before .before .before .before .before .before .before .before .before .before .before .args in
-    let n = name-of (now (a .name)) in
-    let s = state-of (a .self) (now (a .out)) in
-    let k = a .self .skip in
-    c .before .before .tag2 .ensures
-    ∙ element-tag n s k refl (sym (c .before .before .before .before .before .before .before .before .skip-no .ensures) ∙ c .before .before .before .before .before .before .before .if1 .taken) (a .closing) (c .before .before .before .before .before .before .before .before .before .before .tag-of .result) (c .before .before .before .before .before .before .before .before .before .before .tag-of .ensures) (c .before .before .before .before .before .before .if2 .left) (ap skip-no (sym (c .before .before .before .before .before .before .before .before .before .tag-skip .ensures)) ∙ sym (c .before .before .before .before .before .skip-no2 .ensures) ∙ c .before .before .before .before .if3 .taken)
-
-skipping-requires : tie.Need-skipping-requires
-skipping-requires c κs = search needs
-
-returns-3 : tie.Need-returns-3
-unfolding state-of tagged
-returns-3 c =
-    let a = c .before .before .before .before .before .before .before .before .before .before .args in
-    let n = name-of (now (a .name)) in
-    let s = state-of (a .self) (now (a .out)) in
-    let k = a .self .skip in
-    ap some (c .skipping .ensures (now (a .out)) ∙ ap (λ (x : Skip). with-skip (skip-name x) s) (c .before .before .before .before .before .before .tag-skip .ensures))
-    ∙ element-skips n s k refl (sym (c .before .before .before .before .before .skip-no .ensures) ∙ c .before .before .before .before .if1 .taken) (a .closing) (c .before .before .before .before .before .before .before .tag-of .result) (c .before .before .before .before .before .before .before .tag-of .ensures) (c .before .before .before .if2 .left) (λ e. c .before .if3 .left (c .before .before .skip-no2 .ensures ∙ ap skip-no (c .before .before .before .before .before .before .tag-skip .ensures) ∙ e))
-
 returns-4 : tie.Need-returns-4
-unfolding state-of tagged
+unfolding state-of
 returns-4 c =
-    let a = c .before .before .before .before .before .before .before .args in
-    let n = name-of (now (a .name)) in
-    let s = state-of (a .self) (now (a .out)) in
-    let k = a .self .skip in
-    element-stays n s k refl (λ e. c .before .if1 .left (c .before .before .skip-no .ensures ∙ e)) (a .closing) (not-true (a .closing) (c .if4 .taken))
-
-skip-no-requires-3 : tie.Need-skip-no-requires-3
-skip-no-requires-3 c κs = search needs
-
-skip-no-requires-4 : tie.Need-skip-no-requires-4
-skip-no-requires-4 c κs = search needs
-
-returns-5 : tie.Need-returns-5
-unfolding state-of tagged
-returns-5 c =
-    let a = c .before .before .before .before .before .before .before .before .before .before .args in
-    let n = name-of (now (a .name)) in
-    let s = state-of (a .self) (now (a .out)) in
-    let k = a .self .skip in
-    element-other n s k refl (λ e. c .before .before .before .before .if1 .left (c .before .before .before .before .before .skip-no .ensures ∙ e)) (c .before .before .before .before .before .before .before .tag-of .result) (c .before .before .before .before .before .before .before .tag-of .ensures) (a .closing) (not-false (a .closing) (c .before .before .before .if4 .left)) (λ e. c .if5 .taken (c .before .before .skip-no3 .ensures ∙ e ∙ ap skip-no (sym (c .before .before .before .before .before .before .tag-skip .ensures)) ∙ sym (c .before .skip-no4 .ensures)))
-
-skipping-requires-2 : tie.Need-skipping-requires-2
-skipping-requires-2 c κs = search needs
-
-returns-6 : tie.Need-returns-6
-unfolding state-of tagged
-returns-6 c =
-    let a = c .before .before .before .before .before .before .before .before .before .before .before .args in
-    let n = name-of (now (a .name)) in
-    let s = state-of (a .self) (now (a .out)) in
-    let k = a .self .skip in
-    ap some (c .skipping2 .ensures (now (a .out)))
-    ∙ element-ends n s k refl (λ e. c .before .before .before .before .before .if1 .left (c .before .before .before .before .before .before .skip-no .ensures ∙ e)) (c .before .before .before .before .before .before .before .before .tag-of .result) (c .before .before .before .before .before .before .before .before .tag-of .ensures) (a .closing) (not-false (a .closing) (c .before .before .before .before .if4 .left)) (sym (c .before .before .before .skip-no3 .ensures) ∙ c .before .if5 .left ∙ c .before .before .skip-no4 .ensures ∙ ap skip-no (c .before .before .before .before .before .before .before .tag-skip .ensures))
+    let a = c .before .before .before .before .before .before .before .before .before .before .before .before .before .before .before .before .args in
+    let s = state-of (a .self) (now (a .lists)) (now (a .out)) in
+    let t = c .before .before .before .before .before .before .before .before .before .before .before .before .tag-of in
+    let z = sym (c .before .before .before .before .before .before .before .before .before .before .skip-no .ensures) ∙ c .before .before .before .before .before .before .before .before .before .if1 .left in
+    let h = ap (λ (x : ℕ). not (a .closing) && not (eqb x 0)) (sym (c .before .before .before .before .before .before .before .before .skip-no4 .ensures ∙ ap skip-no (c .before .before .before .before .before .before .before .before .before .before .before .tag-skip .ensures))) ∙ c .before .before .before .before .before .before .before .if3 .left in
+    c .before .before .before .before .tag .ensures ∙ element-tag (name-of (now (a .name))) s (t .result) (t .ensures) (a .self .skip) refl z (a .closing) h
 
 pub element-spec : {M : Type 1} → statement M
-element-spec =
-    tie.close
-    (tie.spec
-    tag-of-requires
-    tag-skip-requires
-    skip-no-requires
-    tag-requires
-    same-length
-    returns
-    skip-no-requires-2
-    tag-requires-2
-    same-length-2
-    returns-2
-    skipping-requires
-    returns-3
-    returns-4
-    skip-no-requires-3
-    skip-no-requires-4
-    returns-5
-    skipping-requires-2
-    returns-6)
+element-spec = tie.close (tie.spec tag-of-requires tag-skip-requires skip-no-requires skip-no-requires-2 skip-no-requires-3 skipping-requires returns returns-2 skip-no-requires-4 skipping-requires-2 returns-3 tag-requires same-length same-length-2 returns-4)

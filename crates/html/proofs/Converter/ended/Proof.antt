@@ -1,15 +1,19 @@
 -- `Converter::ended` meets its contract.
 -- Assumes nothing.
 use mathlib.Core.Path.{_≡_, refl, sym, ap, _∙_}
-use Rattle.html.specs.Struct.{state-of, ended}
-use Rattle.html.specs.State.{State, with-out}
+use native.Mathlib.Omega.{arith}
+use denote.Ref.{now}
+use Prim.Native.Nat.{ℕ, _+_, _-_, _*_, _^_, _≤_, _<_}
+use mathlib.Core.List.{List, [], _∷_}
 use mathlib.Core.Bool.{false}
+use Rattle.html.specs.State.{with-out}
+use Rattle.html.specs.Struct.{state-of, ended}
 use borrow.Author.Needs.{needs}
 use Rattle.html.proofs.Converter.ended.Statement.{statement}
 use Rattle.html.proofs.Converter.ended.Tie as tie
 use Rattle.html.proofs.Converter.ended.Reads as reads
 use Rattle.html.proofs.Converter.ended.Lts as lts
-use Rattle.html.proofs.Converter.push_all.Reads as push-all-reads
+use Rattle.html.proofs.output.push_all.Reads as push-all-reads
 
 push-all-requires : tie.Need-push-all-requires
 push-all-requires c κs = search needs
@@ -18,8 +22,10 @@ same-length : tie.Need-same-length
 same-length c = search needs
 
 returns : tie.Need-returns
-unfolding state-of ended
-returns c = ap (λ (t : State). with-out (t .out) false t) (c .before .before .push-all .ensures)
+unfolding ended state-of
+returns c =
+    let a = c .before .before .before .before .before .before .args in
+    λ l. ap (λ (o : List ℕ). with-out o false (state-of (a .self) l (now (a .out)))) (c .before .before .push-all .ensures)
 
 pub ended-spec : {M : Type 1} → statement M
 ended-spec = tie.close (tie.spec push-all-requires same-length returns)

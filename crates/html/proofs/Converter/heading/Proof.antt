@@ -3,22 +3,24 @@
 use mathlib.Core.Path.{_≡_, refl, sym, ap, _∙_}
 use native.Mathlib.Omega.{arith}
 use denote.Ref.{now}
-use Prim.Native.Nat.{ℕ, _+_}
-use Rattle.html.specs.Struct.{heading-of}
-use Rattle.html.proofs.GrowLaws.{grown, grow-block, grow-times}
-use Rattle.html.proofs.StepLaws.{heading-open}
-use Rattle.html.specs.State.{State, push-str, block}
-use borrow.Author.Tests.{lt-ltb, le-ltb}
-use mathlib.Core.List.{[], _∷_}
+use Prim.Native.Nat.{ℕ, _+_, _-_, _*_, _^_, _≤_, _<_}
+use mathlib.Core.List.{List, [], _∷_, _++_}
+use Rattle.text.specs.Words.{repeat, str}
 use lib.ListN.{replicate}
+use Rattle.html.specs.State.{push-str, block}
+use Rattle.html.specs.Struct.{state-of, heading-of}
+use Rattle.html.proofs.GrowLaws.{grown, grow-block, times-len}
+use Rattle.html.proofs.StepLaws.{heading-written}
+use Rattle.html.proofs.FitLaws.{level-most}
 use borrow.Author.Needs.{needs}
 use Rattle.html.proofs.Converter.heading.Statement.{statement}
 use Rattle.html.proofs.Converter.heading.Tie as tie
 use Rattle.html.proofs.Converter.heading.Reads as reads
 use Rattle.html.proofs.Converter.heading.Lts as lts
 use Rattle.html.proofs.Converter.block.Reads as block-reads
-use Rattle.html.proofs.Converter.push.Reads as push-reads
-use Rattle.html.proofs.Converter.push_times.Reads as push-times-reads
+use Rattle.html.proofs.output.push.Reads as push-reads
+use Rattle.html.proofs.output.push_times.Reads as push-times-reads
+use Rattle.html.proofs.tags.level_of.Reads as level-of-reads
 
 block-requires : tie.Need-block-requires
 block-requires c κs = search needs
@@ -28,58 +30,34 @@ same-length c = search needs
 
 returns : tie.Need-returns
 unfolding heading-of
-returns c = rw (c .if1 .taken) (c .before .before .before .block .ensures)
+returns c = λ l. rw (c .if1 .taken) (c .before .before .before .block .ensures l)
+
+level-of-requires : tie.Need-level-of-requires
+level-of-requires c κs = search needs
 
 push-times-requires : tie.Need-push-times-requires
 push-times-requires c κs =
     let b = grown block 2 grow-block _ _ _ _ (c .before .before .before .before .before .block .ensures) in
-    (omega arith, omega arith)
+    (omega (arith, level-most (c .before .before .before .before .before .before .before .before .args .level), c .level-of .ensures), omega arith)
 
 push-requires : tie.Need-push-requires
 push-requires c κs =
     let b = grown block 2 grow-block _ _ _ _ (c .before .before .before .before .before .before .before .before .before .block .ensures) in
-    let t = grown (push-str (replicate (c .before .before .before .before .before .before .before .before .before .before .before .before .args .level) 35)) (c .before .before .before .before .before .before .before .before .before .before .before .before .args .level) (grow-times (c .before .before .before .before .before .before .before .before .before .before .before .before .args .level) 35 (omega arith)) _ _ _ _ (c .before .before .before .push-times .ensures) in
-    (omega arith, omega arith)
+    let t = times-len _ _ (c .before .before .before .before .level-of .result) 35 _ _ (omega arith) (c .before .before .before .push-times .ensures) in
+    (omega (arith, level-most (c .before .before .before .before .before .before .before .before .before .before .before .before .args .level), c .before .before .before .before .level-of .ensures), omega arith)
 
 same-length-2 : tie.Need-same-length-2
 same-length-2 c = search needs
 
 returns-2 : tie.Need-returns-2
-unfolding heading-of
+unfolding heading-of state-of
 returns-2 c =
-    rw (c .before .before .before .before .before .before .before .before .before .if1 .left) (c .before .before .push .ensures ∙ ap (push-str (32 ∷ [])) (c .before .before .before .before .before .before .push-times .ensures ∙ ap (push-str (replicate (c .before .before .before .before .before .before .before .before .before .before .before .before .before .before .before .args .level) 35)) (c .before .before .before .before .before .before .before .before .before .before .before .before .block .ensures)) ∙ heading-open (c .before .before .before .before .before .before .before .before .before .before .before .before .before .before .before .args .level) (c .before .before .before .before .before .before .before .before .before .before .before .before .before .before .before .args .level) _ (rw (lt-ltb _ _ (c .before .before .before .before .before .before .before .before .if2 .taken))))
-
-push-times-requires-2 : tie.Need-push-times-requires-2
-push-times-requires-2 c κs =
-    let b = grown block 2 grow-block _ _ _ _ (c .before .before .before .before .before .block .ensures) in
-    (omega arith, omega arith)
-
-push-requires-2 : tie.Need-push-requires-2
-push-requires-2 c κs =
-    let b = grown block 2 grow-block _ _ _ _ (c .before .before .before .before .before .before .before .before .before .block .ensures) in
-    let t = grown (push-str (replicate 3 35)) 3 (grow-times 3 35 (omega arith)) _ _ _ _ (c .before .before .before .push-times2 .ensures) in
-    (omega arith, omega arith)
-
-same-length-3 : tie.Need-same-length-3
-same-length-3 c = search needs
-
-returns-3 : tie.Need-returns-3
-unfolding heading-of
-returns-3 c =
-    rw (c .before .before .before .before .before .before .before .before .before .if1 .left) (c .before .before .push2 .ensures ∙ ap (push-str (32 ∷ [])) (c .before .before .before .before .before .before .push-times2 .ensures ∙ ap (push-str (replicate 3 35)) (c .before .before .before .before .before .before .before .before .before .before .before .before .block .ensures)) ∙ heading-open 3 (c .before .before .before .before .before .before .before .before .before .before .before .before .before .before .before .args .level) _ (rw (le-ltb _ _ (c .before .before .before .before .before .before .before .before .if2 .left))))
+    let a = c .before .before .before .before .before .before .before .before .before .before .before .before .before .before .before .args in
+    let k = c .before .before .before .before .before .before .before .level-of in
+    λ l.
+    let s = state-of (a .self) l (now (a .out)) in
+    rw (c .before .before .before .before .before .before .before .before .before .if1 .left) (heading-written (c .before .before .before .before .before .before .before .before .before .before .before .before .block .result) l _ _ _ (k .result) _ _ s (c .before .before .before .before .before .before .before .before .before .before .before .before .block .ensures l) (c .before .before .before .before .before .before .push-times .ensures) (c .before .before .push .ensures)
+    ∙ ap (λ (n : ℕ). push-str (repeat n "#" ++ str " ") (block s)) (k .ensures))
 
 pub heading-spec : {M : Type 1} → statement M
-heading-spec =
-    tie.close
-    (tie.spec
-    block-requires
-    same-length
-    returns
-    push-times-requires
-    push-requires
-    same-length-2
-    returns-2
-    push-times-requires-2
-    push-requires-2
-    same-length-3
-    returns-3)
+heading-spec = tie.close (tie.spec block-requires same-length returns level-of-requires push-times-requires push-requires same-length-2 returns-2)

@@ -12,7 +12,7 @@ use Rattle.html.proofs.Converter.ended.Reads as ended-reads
 
 returns : tie.Need-returns
 unfolding tag
-returns c = rw (c .if1 .taken)
+returns c = λ l. rw (c .if1 .taken)
 
 slice-aggregate-ended : tie.Need-slice-aggregate-ended
 slice-aggregate-ended c = search needs
@@ -25,7 +25,7 @@ same-length c = search needs
 
 returns-2 : tie.Need-returns-2
 unfolding tag ended
-returns-2 c = rw (c .before .before .before .before .before .if1 .left) (c .before .before .ended .ensures)
+returns-2 c = λ l. rw (c .before .before .before .before .before .if1 .left) (c .before .before .ended .ensures l)
 
 pub line-break-spec : {M : Type 1} → statement M
 line-break-spec =

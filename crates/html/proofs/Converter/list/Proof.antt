@@ -3,7 +3,8 @@
 use mathlib.Core.Path.{_≡_, refl, sym, ap, _∙_}
 use native.Mathlib.Omega.{arith}
 use denote.Ref.{now}
-use Prim.Native.Nat.{ℕ, _+_, _≤_, _<_}
+use Prim.Native.Nat.{ℕ, _+_, _-_, _*_, _^_, _≤_, _<_}
+use mathlib.Core.List.{List, _∷_}
 use Rattle.html.specs.Struct.{state-of, lists-of, tagged, list-tag}
 use Rattle.html.proofs.GrowLaws.{len-of}
 use Rattle.html.proofs.StepLaws.{list-closes, list-full, list-opens, depth-is}
@@ -21,8 +22,10 @@ closed-requires c κs = search needs
 
 changed-requires : tie.Need-changed-requires
 changed-requires c κs =
-    let w = now (c .before .before .before .before .args .out) in
-    omega (arith, len-of _ w _ (c .before .closed .ensures w), len-of (c .before .before .before .before .args .self) w _ refl)
+    let a = c .before .before .before .before .before .args in
+    let l = now (a .lists) in
+    let w = now (a .out) in
+    omega (arith, len-of _ l w _ (c .before .closed .ensures l w), len-of (a .self) l w _ refl)
 
 same-length : tie.Need-same-length
 same-length c = search needs
@@ -30,43 +33,42 @@ same-length c = search needs
 returns : tie.Need-returns
 unfolding tagged
 returns c =
-    let a = c .before .before .before .before .before .before .before .args in
-    rw (c .before .before .before .before .before .if1 .taken) (list-closes (a .first) (a .self) (c .before .before .before .before .closed .result) _ (now (a .out)) _ (c .before .before .before .before .closed .ensures (now (a .out))) (c .before .before .changed .ensures))
+    let a = c .before .before .before .before .before .before .before .before .args in
+    let l = now (a .lists) in
+    let w = now (a .out) in
+    rw (c .before .before .before .before .before .if1 .taken) (list-closes (a .first) (a .self) (c .before .before .before .before .closed .result) _ l w _ (c .before .before .before .before .closed .ensures l w) (c .before .before .changed .ensures l))
 
 returns-2 : tie.Need-returns-2
 unfolding tagged
 returns-2 c =
-    let a = c .before .before .before .before .args in
+    let a = c .before .before .before .before .before .args in
+    let l = now (a .lists) in
     let w = now (a .out) in
-    rw (c .before .before .if1 .left) (list-full (a .first) (state-of (a .self) w) (omega (arith, depth-is (a .self) w _ refl, c .if2 .taken)))
+    rw (c .before .before .if1 .left) (list-full (a .first) (state-of (a .self) l w) (omega (arith, depth-is (a .self) l w _ refl, c .if2 .taken)))
 
 opened-requires : tie.Need-opened-requires
 opened-requires c κs = search needs
 
 changed-requires-2 : tie.Need-changed-requires-2
 changed-requires-2 c κs =
-    let w = now (c .before .before .before .before .before .before .args .out) in
-    omega (arith, len-of _ w _ (c .before .opened .ensures w), len-of (c .before .before .before .before .before .before .args .self) w _ refl)
+    let a = c .before .before .before .before .before .before .before .before .before .before .args in
+    let l = now (a .lists) in
+    let w = now (a .out) in
+    omega (arith, len-of _ _ w _ (c .before .before .before .opened .ensures w), len-of (a .self) l w _ refl)
 
 same-length-2 : tie.Need-same-length-2
 same-length-2 c = search needs
 
+same-length-3 : tie.Need-same-length-3
+same-length-3 c = search needs
+
 returns-3 : tie.Need-returns-3
 unfolding tagged
 returns-3 c =
-    let a = c .before .before .before .before .before .before .before .before .before .args in
-    rw (c .before .before .before .before .before .before .before .if1 .left) (list-opens (a .first) (a .self) (c .before .before .before .before .opened .result) _ (now (a .out)) _ (omega (arith, c .before .before .before .before .before .if2 .left)) (c .before .before .before .before .opened .ensures (now (a .out))) (c .before .before .changed2 .ensures))
+    let a = c .before .before .before .before .before .before .before .before .before .before .before .before .before .args in
+    let l = now (a .lists) in
+    let w = now (a .out) in
+    rw (c .before .before .before .before .before .before .before .before .before .before .if1 .left) (list-opens (a .first) (a .self) (c .before .before .before .before .before .before .opened .result) _ l _ w _ (omega (arith, c .before .before .before .before .before .before .before .before .if2 .left)) (c .before .before .before .before .before .before .opened .ensures w) (c .before .before .changed2 .ensures _))
 
 pub list-spec : {M : Type 1} → statement M
-list-spec =
-    tie.close
-    (tie.spec
-    closed-requires
-    changed-requires
-    same-length
-    returns
-    returns-2
-    opened-requires
-    changed-requires-2
-    same-length-2
-    returns-3)
+list-spec = tie.close (tie.spec closed-requires changed-requires same-length returns returns-2 opened-requires changed-requires-2 same-length-2 same-length-3 returns-3)

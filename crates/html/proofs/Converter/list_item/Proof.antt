@@ -2,10 +2,12 @@
 -- Assumes nothing.
 use mathlib.Core.Path.{_≡_, refl, sym, ap, _∙_}
 use native.Mathlib.Omega.{arith}
-use Prim.Native.Nat.{ℕ, _+_, _≤_, _<_, _^_}
+use denote.Ref.{now}
+use Prim.Native.Nat.{ℕ, _+_, _-_, _*_, _^_, _≤_, _<_}
+use mathlib.Core.List.{List, _∷_}
+use Rattle.html.specs.State.{tag, newline}
 use Rattle.html.proofs.GrowLaws.{grown, grow-newline}
 use Rattle.html.proofs.StepLaws.{newline-same, like, item-tag}
-use Rattle.html.specs.State.{tag, newline}
 use borrow.Author.Needs.{needs}
 use Rattle.html.proofs.Converter.list_item.Statement.{statement}
 use Rattle.html.proofs.Converter.list_item.Tie as tie
@@ -23,16 +25,23 @@ newline-requires c κs = search needs
 
 item-requires : tie.Need-item-requires
 item-requires c κs =
-    let g = grown newline 1 grow-newline _ _ _ _ (c .before .before .before .newline .ensures) in
-    let l = newline-same (c .before .before .before .before .before .before .before .args .self) (c .before .before .before .newline .result) _ _ (c .before .before .before .newline .ensures) in
-    (omega (arith, like (c .before .before .before .before .before .before .before .args .self) (c .before .before .before .newline .result) l), (omega arith, rw l (c .before .before .before .before .before .before .before .pre .1 .1)))
+    let a = c .before .before .before .before .before .before .before .before .before .args in
+    let n = c .before .before .before .before .newline in
+    let g = grown newline 1 grow-newline _ _ _ _ (n .ensures) in
+    let l = newline-same (a .self) (n .result) (now (a .lists)) _ _ (n .ensures (now (a .lists))) in
+    ((omega (arith, like (a .self) (n .result) (now (a .lists)) l), omega arith), (omega arith, rw l (c .before .before .before .before .before .before .before .before .before .pre .1 .1)))
 
 same-length : tie.Need-same-length
 same-length c = search needs
 
+same-length-2 : tie.Need-same-length-2
+same-length-2 c = search needs
+
 returns-2 : tie.Need-returns-2
 returns-2 c =
-    rw (c .before .before .before .before .before .before .before .before .if1 .left) (c .before .before .item .ensures ∙ item-tag (c .before .before .before .before .before .before .before .before .before .before .args .self) (c .before .before .before .before .before .before .newline .result) _ _ (c .before .before .before .before .before .before .newline .ensures))
+    let a = c .before .before .before .before .before .before .before .before .before .before .before .before .before .before .args in
+    let n = c .before .before .before .before .before .before .before .before .before .newline in
+    rw (c .before .before .before .before .before .before .before .before .before .before .before .if1 .left) (c .before .before .before .before .item .ensures ∙ item-tag (a .self) (n .result) (now (a .lists)) _ _ (n .ensures (now (a .lists))))
 
 pub list-item-spec : {M : Type 1} → statement M
-list-item-spec = tie.close (tie.spec returns newline-requires item-requires same-length returns-2)
+list-item-spec = tie.close (tie.spec returns newline-requires item-requires same-length same-length-2 returns-2)

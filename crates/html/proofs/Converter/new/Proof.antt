@@ -11,7 +11,7 @@ use Rattle.html.proofs.Converter.new.Lts as lts
 
 returns : tie.Need-returns
 unfolding state-of out-of
-returns c = λ w. rw chars-nil
+returns c = λ l w. rw chars-nil
 
 pub new-spec : {M : Type 1} → statement M
 new-spec = tie.close (tie.spec returns)

@@ -3,6 +3,10 @@
 use mathlib.Core.Path.{_≡_, refl, sym, ap, _∙_}
 use native.Mathlib.Omega.{arith}
 use denote.Ref.{now}
+use Prim.Native.Nat.{ℕ}
+use mathlib.Core.List.{List}
+use mathlib.Core.Bool.{false}
+use Rattle.html.specs.State.{with-out}
 use Rattle.html.specs.Struct.{state-of}
 use Rattle.html.proofs.GrowLaws.{unspaced-most}
 use Rattle.html.proofs.StepLaws.{cleared, newline-start, newline-feed}
@@ -11,7 +15,7 @@ use Rattle.html.proofs.Converter.newline.Statement.{statement}
 use Rattle.html.proofs.Converter.newline.Tie as tie
 use Rattle.html.proofs.Converter.newline.Reads as reads
 use Rattle.html.proofs.Converter.newline.Lts as lts
-use Rattle.html.proofs.Converter.push.Reads as push-reads
+use Rattle.html.proofs.output.push.Reads as push-reads
 use Rattle.html.proofs.output.line_start.Reads as line-start-reads
 use Rattle.html.proofs.output.unspaced.Reads as unspaced-reads
 
@@ -31,7 +35,8 @@ unfolding state-of
 returns c =
     let w = now (c .before .before .before .before .before .before .args .out) in
     let n = c .before .before .before .unspaced .result in
-    let e = cleared (c .before .before .before .before .before .before .args .self) n w (c .before .before .before .unspaced .ensures) in
+    λ l.
+    let e = cleared (c .before .before .before .before .before .before .args .self) n l w (c .before .before .before .unspaced .ensures) in
     newline-start _ _ e (sym (c .before .line-start .ensures) ∙ c .if1 .taken)
 
 push-requires : tie.Need-push-requires
@@ -47,8 +52,9 @@ unfolding state-of
 returns-2 c =
     let w = now (c .before .before .before .before .before .before .before .before .before .before .args .out) in
     let n = c .before .before .before .before .before .before .before .unspaced .result in
-    let e = cleared (c .before .before .before .before .before .before .before .before .before .before .args .self) n w (c .before .before .before .before .before .before .before .unspaced .ensures) in
-    c .before .before .push .ensures
+    λ l.
+    let e = cleared (c .before .before .before .before .before .before .before .before .before .before .args .self) n l w (c .before .before .before .before .before .before .before .unspaced .ensures) in
+    ap (λ (o : List ℕ). with-out o false (state-of (c .before .before .before .before .before .before .before .before .before .before .args .self) l w)) (c .before .before .push .ensures)
     ∙ newline-feed _ _ e (sym (c .before .before .before .before .before .line-start .ensures) ∙ c .before .before .before .before .if1 .left)
 
 pub newline-spec : {M : Type 1} → statement M

@@ -9,7 +9,7 @@ use Rattle.html.proofs.Converter.skipping.Lts as lts
 
 returns : tie.Need-returns
 unfolding state-of
-returns c = λ w. refl
+returns c = λ l w. refl
 
 pub skipping-spec : {M : Type 1} → statement M
 skipping-spec = tie.close (tie.spec returns)

@@ -26,14 +26,15 @@ returns : tie.Need-returns
 unfolding state-of
 returns c =
     let a = c .before .before .before .before .before .before .before .before .args in
-    c .before .before .text .ensures
-    ∙ words-shown (chars (now (a .raw))) (state-of (a .self) (now (a .out))) (a .self .skip) refl (sym (c .before .before .before .before .before .skip-no .ensures) ∙ c .before .before .before .before .if1 .taken)
+    λ l.
+    c .before .before .text .ensures l
+    ∙ words-shown (chars (now (a .raw))) (state-of (a .self) l (now (a .out))) (a .self .skip) refl (sym (c .before .before .before .before .before .skip-no .ensures) ∙ c .before .before .before .before .if1 .taken)
 
 returns-2 : tie.Need-returns-2
 unfolding state-of
 returns-2 c =
     let a = c .before .before .before .before .args in
-    words-skipped (chars (now (a .raw))) (state-of (a .self) (now (a .out))) (a .self .skip) refl (λ e. c .if1 .left (c .before .skip-no .ensures ∙ e))
+    λ l. words-skipped (chars (now (a .raw))) (state-of (a .self) l (now (a .out))) (a .self .skip) refl (λ e. c .if1 .left (c .before .skip-no .ensures ∙ e))
 
 pub words-spec : {M : Type 1} → statement M
 words-spec = tie.close (tie.spec skip-no-requires text-requires same-length returns returns-2)

@@ -1,26 +1,25 @@
--- `Converter::push_times` meets its contract: what is left of the bytes gives the same output.
+-- `push_times` meets its contract: what is left of the bytes gives the same output.
 -- Assumes nothing.
 use borrow.Author.Needs.{needs}
 use mathlib.Core.Path.{_≡_, refl, sym, ap, _∙_}
 use native.Mathlib.Omega.{arith}
 use denote.Ref.{now}
-use Rattle.html.specs.Struct.{state-of, out-of}
+use Rattle.html.specs.Struct.{out-of}
 use Rattle.html.proofs.OutLaws.{times-more}
 use Prim.Native.Nat.{ℕ, _≤_, _+_, _-_}
 use mathlib.Core.List.{List, reverseAux}
 use lib.ListN.{length, replicate, length-set}
-use Rattle.html.specs.State.{push-str, with-out}
-use Rattle.html.proofs.Converter.push_times.Statement.{statement}
-use Rattle.html.proofs.Converter.push_times.Tie as tie
-use Rattle.html.proofs.Converter.push_times.Reads as reads
-use Rattle.html.proofs.Converter.push_times.Lts as lts
+use Rattle.html.proofs.output.push_times.Statement.{statement}
+use Rattle.html.proofs.output.push_times.Tie as tie
+use Rattle.html.proofs.output.push_times.Reads as reads
+use Rattle.html.proofs.output.push_times.Lts as lts
 
 abbrev Inv-loop : tie.InvT-loop
-Inv-loop self out₀ byte times at₀ left₀ out at left =
-    (at + left ≡ self .len + times) × (length out ≡ length out₀) × (reverseAux (replicate left byte) (out-of at out) ≡ reverseAux (replicate times byte) (out-of (self .len) out₀))
+Inv-loop out₀ n byte times at₀ left₀ out at left =
+    (at + left ≡ n + times) × (length out ≡ length out₀) × (reverseAux (replicate left byte) (out-of at out) ≡ reverseAux (replicate times byte) (out-of n out₀))
 
 abbrev μ-loop : tie.MeasureT-loop
-μ-loop self out₀ byte times at₀ left₀ out at left = left
+μ-loop out₀ n byte times at₀ left₀ out at left = left
 
 loop-holds : tie.Need-loop-holds Inv-loop μ-loop
 loop-holds c = (omega arith, refl, refl)
@@ -46,12 +45,10 @@ same-length : tie.Need-same-length Inv-loop μ-loop
 same-length c = search needs
 
 returns : tie.Need-returns Inv-loop μ-loop
-unfolding state-of
 returns c =
     let l = c .before .loop in
-    let a = c .before .before .args in
     let z : l .left ≡ 0 = omega arith in
-    ap (λ (o : List ℕ). with-out o (a .self .space) (state-of (a .self) (now (a .out)))) (rw z at (l .inv .2))
+    rw z at (l .inv .2)
 
 pub push-times-spec : {M : Type 1} → statement M
 push-times-spec =

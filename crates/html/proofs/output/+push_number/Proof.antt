@@ -1,24 +1,23 @@
--- `Converter::push_number` meets its contract: the digits of the tenth part, and the last.
+-- `push_number` meets its contract: the digits of the tenth part, and the last.
 -- Assumes nothing.
 use borrow.Author.Needs.{needs}
-use Rattle.html.proofs.GrowLaws.{grown, grow-str, decimal-ascii}
+use Rattle.html.proofs.GrowLaws.{all-len, decimal-ascii}
 use Rattle.html.proofs.NumberLaws.{decimal-small, decimal-large, number-small, number-large}
-use Rattle.html.specs.State.{push-str}
 use Rattle.text.specs.Decimal.{decimal}
 use lib.ListN.{length, length-append}
-use mathlib.Core.List.{[], _∷_}
+use mathlib.Core.List.{List, [], _∷_}
 use Prim.Native.Nat.{_+_, _/_, _%_}
 use mathlib.Core.Path.{_≡_, refl, sym, ap, _∙_}
 use native.Mathlib.Omega.{arith}
 use Prim.Native.Nat.{ℕ, _<_}
 use borrow.Fn.Kinds.{In}
 use borrow.Fn.PlainCycle.{Measures, is, falls, and}
-use Rattle.html.proofs.Converter.push_number.Reads as push-number
-use Rattle.html.proofs.Converter.push_number.Kinds as push-number-kinds
-use Rattle.html.proofs.Converter.+push_number.Lts-push_number as push-number-lts
-use Rattle.html.proofs.Converter.push.Reads as push-reads
-use Rattle.html.proofs.Converter.+push_number.{statement}
-use Rattle.html.proofs.Converter.+push_number.Tie.{close}
+use Rattle.html.proofs.output.push_number.Reads as push-number
+use Rattle.html.proofs.output.push_number.Kinds as push-number-kinds
+use Rattle.html.proofs.output.+push_number.Lts-push_number as push-number-lts
+use Rattle.html.proofs.output.push.Reads as push-reads
+use Rattle.html.proofs.output.+push_number.{statement}
+use Rattle.html.proofs.output.+push_number.Tie.{close}
 
 abbrev μ-push-number : Measures 1 push-number-kinds.ps ℕ
 μ-push-number κs a = a .1 .1 .0
@@ -54,7 +53,7 @@ push-number-push-requires : (t : ℕ) → push-number-lts.Need-push-requires (
   push-number.Post,
 ) (push-number-at t) push-number.Post
 push-number-push-requires t c κs =
-    (omega (arith, ap length (decimal-small (c .before .before .before .args .n) (c .before .if1 .taken))), omega arith)
+    (omega (arith, ap length (decimal-small (c .before .before .before .args .number) (c .before .if1 .taken))), omega arith)
 
 push-number-same-length : (t : ℕ) → push-number-lts.Need-same-length (
   push-reads.Asked,
@@ -72,7 +71,7 @@ push-number-returns : (t : ℕ) → push-number-lts.Need-returns (
 ) (push-number-at t) push-number.Post
 push-number-returns t c =
     c .before .before .push .ensures
-    ∙ number-small (c .before .before .before .before .before .before .args .n) _ (c .before .before .before .before .if1 .taken)
+    ∙ number-small (c .before .before .before .before .before .before .args .number) _ (c .before .before .before .before .if1 .taken)
 
 push-number-push-number-requires : (t : ℕ) → push-number-lts.Need-push-number-requires (
   push-reads.Asked,
@@ -81,7 +80,7 @@ push-number-push-number-requires : (t : ℕ) → push-number-lts.Need-push-numbe
   push-number.Post,
 ) (push-number-at t) push-number.Post
 push-number-push-number-requires t c κs =
-    let n = c .before .before .before .args .n in
+    let n = c .before .before .before .args .number in
     let h = c .before .if1 .left in
     let l = decimal-large n h in
     (omega arith, omega (arith, ap length l, length-append (decimal (n / 10)) ((48 + n % 10) ∷ [])))
@@ -109,10 +108,10 @@ push-number-push-requires-2 : (t : ℕ) → push-number-lts.Need-push-requires-2
   push-number.Post,
 ) (push-number-at t) push-number.Post
 push-number-push-requires-2 t c κs =
-    let n = c .before .before .before .before .before .before .before .args .n in
+    let n = c .before .before .before .before .before .before .before .args .number in
     let h = c .before .before .before .before .before .if1 .left in
     let l = decimal-large n h in
-    (omega (arith, ap length l, length-append (decimal (n / 10)) ((48 + n % 10) ∷ []), grown (push-str (decimal (n / 10))) (length (decimal (n / 10))) (grow-str (decimal (n / 10)) (decimal-ascii (n / 10))) _ _ _ _ (c .before .before .before .push-number .ensures)), omega arith)
+    (omega (arith, ap length l, length-append (decimal (n / 10)) ((48 + n % 10) ∷ []), all-len _ _ (decimal (n / 10)) _ _ (decimal-ascii (n / 10)) (c .before .before .before .push-number .ensures)), omega arith)
 
 push-number-same-length-2 : (t : ℕ) → push-number-lts.Need-same-length-2 (
   push-reads.Asked,
@@ -129,9 +128,9 @@ push-number-returns-2 : (t : ℕ) → push-number-lts.Need-returns-2 (
   push-number.Post,
 ) (push-number-at t) push-number.Post
 push-number-returns-2 t c =
-    let n = c .before .before .before .before .before .before .before .before .before .before .args .n in
+    let n = c .before .before .before .before .before .before .before .before .before .before .args .number in
     c .before .before .push2 .ensures
-    ∙ ap (push-str ((48 + n % 10) ∷ [])) (c .before .before .before .before .before .before .push-number .ensures)
+    ∙ ap (λ (o : List ℕ). (48 + n % 10) ∷ o) (c .before .before .before .before .before .before .push-number .ensures)
     ∙ number-large n _ (c .before .before .before .before .before .before .before .before .if1 .left)
 
 pub +push-number-spec : {M : Type 1} → statement M

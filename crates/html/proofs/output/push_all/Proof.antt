@@ -1,26 +1,25 @@
--- `Converter::push_all` meets its contract: what is left of the bytes gives the same output.
+-- `push_all` meets its contract: what is left of the bytes gives the same output.
 -- Assumes nothing.
 use borrow.Author.Needs.{needs}
 use mathlib.Core.Path.{_≡_, refl, sym, ap, _∙_}
 use native.Mathlib.Omega.{arith}
 use denote.Ref.{now}
-use Rattle.html.specs.Struct.{state-of, out-of}
+use Rattle.html.specs.Struct.{out-of}
 use Rattle.html.proofs.OutLaws.{all-more, all-done}
 use Prim.Native.Nat.{ℕ, _≤_, _+_, _-_}
 use mathlib.Core.List.{List, reverseAux}
 use lib.ListN.{length, drop, length-set}
-use Rattle.html.specs.State.{push-str, with-out}
-use Rattle.html.proofs.Converter.push_all.Statement.{statement}
-use Rattle.html.proofs.Converter.push_all.Tie as tie
-use Rattle.html.proofs.Converter.push_all.Reads as reads
-use Rattle.html.proofs.Converter.push_all.Lts as lts
+use Rattle.html.proofs.output.push_all.Statement.{statement}
+use Rattle.html.proofs.output.push_all.Tie as tie
+use Rattle.html.proofs.output.push_all.Reads as reads
+use Rattle.html.proofs.output.push_all.Lts as lts
 
 abbrev Inv-loop : tie.InvT-loop
-Inv-loop self out₀ bytes at₀ i₀ out at i =
-    (i ≤ length bytes) × (at ≡ self .len + i) × (length out ≡ length out₀) × (reverseAux (drop i bytes) (out-of at out) ≡ reverseAux bytes (out-of (self .len) out₀))
+Inv-loop out₀ n bytes at₀ i₀ out at i =
+    (i ≤ length bytes) × (at ≡ n + i) × (length out ≡ length out₀) × (reverseAux (drop i bytes) (out-of at out) ≡ reverseAux bytes (out-of n out₀))
 
 abbrev μ-loop : tie.MeasureT-loop
-μ-loop self out₀ bytes at₀ i₀ out at i = length bytes - i
+μ-loop out₀ n bytes at₀ i₀ out at i = length bytes - i
 
 loop-holds : tie.Need-loop-holds Inv-loop μ-loop
 loop-holds c = (omega arith, omega arith, refl, refl)
@@ -50,11 +49,10 @@ same-length : tie.Need-same-length Inv-loop μ-loop
 same-length c = search needs
 
 returns : tie.Need-returns Inv-loop μ-loop
-unfolding state-of
 returns c =
     let l = c .before .loop in
     let a = c .before .before .args in
-    ap (λ (o : List ℕ). with-out o (a .self .space) (state-of (a .self) (now (a .out)))) (all-done (now (a .bytes)) (l .out) (l .at) (l .i) (omega arith) (l .inv .3))
+    all-done (now (a .bytes)) (l .out) (l .at) (l .i) (omega arith) (l .inv .3)
 
 pub push-all-spec : {M : Type 1} → statement M
 push-all-spec =
