@@ -18,7 +18,8 @@ fn answer(page: &[u8]) -> Result<Vec<u8>, u32> {
 fn case(page: &[u8]) -> Vec<u8> {
     let found = answer(page);
     let length = found.as_ref().map_or_else(|number| *number, |bytes| bytes.len() as u32);
-    let mut out = (page.len() as u32).to_le_bytes().to_vec();
+    let mut out = vec![b'S'];
+    out.extend((page.len() as u32).to_le_bytes());
     out.extend(length.to_le_bytes());
     out.extend(page);
     out.extend(found.unwrap_or_default());

@@ -1,4 +1,4 @@
-//! compare cases: the cases of crates/replay_sheets on standard output. compare N [SEED]: N inputs to the port and to the published Rust. Prints how many of each kind were run and differ; ends with status 1 where any does.
+//! compare cases: the sheet cases of crates/replay on standard output. compare N [SEED]: N inputs to the port and to the published Rust. Prints how many of each kind were run and differ; ends with status 1 where any does.
 mod cases;
 mod check;
 mod inputs;

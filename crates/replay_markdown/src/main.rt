@@ -1,1 +1,0 @@
-../../replay_pages/src/main.rt
