@@ -1,8 +1,8 @@
-//! Sheets and near-sheets with what document 01 says of them, for the replay program: the reader of sheet.rs says yes or no, and the Rust
-//! gives the Markdown and the records.
+//! What the replay program is given. Sheets and near-sheets with what document 01 says of them: the reader of sheet.rs says yes or no, and the
+//! Rust gives the Markdown and the records. And the Rust's answers to the pages and Markdown texts of tools/replay-data.
 use crate::random::Random;
 use crate::{inputs, oracle, sheet, sheets};
-use std::io::Write;
+use std::io::{Read, Write};
 
 fn answer(page: &[u8]) -> Result<Vec<u8>, u32> {
     let text = std::str::from_utf8(page).map_err(|_| 0xFFFF_FF01u32)?;
@@ -41,6 +41,25 @@ pub fn write() {
     }
     for _ in 0..2 {
         out.extend(case(sheets::long(&mut r).as_bytes()));
+    }
+    std::io::stdout().write_all(&out).expect("standard output");
+}
+
+/// Frames on standard input: P or M, four length bytes, a page or a Markdown text. Each is answered by four length bytes and the Markdown or the records.
+pub fn answers() {
+    let (mut frames, mut out) = (Vec::new(), Vec::new());
+    std::io::stdin().read_to_end(&mut frames).expect("standard input");
+    let mut rest = &frames[..];
+    while let [kind, a, b, c, d, texts @ ..] = rest {
+        let (text, after) = texts.split_at(u32::from_le_bytes([*a, *b, *c, *d]) as usize);
+        let text = std::str::from_utf8(text).expect("UTF-8");
+        let answer = match kind {
+            b'P' => oracle::html_to_markdown(text).into_bytes(),
+            _ => oracle::records(&oracle::blocks(text)),
+        };
+        out.extend((answer.len() as u32).to_le_bytes());
+        out.extend(answer);
+        rest = after;
     }
     std::io::stdout().write_all(&out).expect("standard output");
 }

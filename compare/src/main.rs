@@ -1,4 +1,4 @@
-//! compare cases: the sheet cases of crates/replay on standard output. compare N [SEED]: N inputs to the port and to the published Rust. Prints how many of each kind were run and differ; ends with status 1 where any does.
+//! compare cases, compare answers: what tools/replay-data puts together for crates/replay. compare N [SEED]: N inputs to the port and to the published Rust. Prints how many of each kind were run and differ; ends with status 1 where any does.
 mod cases;
 mod check;
 mod inputs;
@@ -104,8 +104,10 @@ fn sheets(n: usize, seed: u64) -> Vec<Count> {
 }
 
 fn main() {
-    if std::env::args().nth(1).as_deref() == Some("cases") {
-        return cases::write();
+    match std::env::args().nth(1).as_deref() {
+        Some("cases") => return cases::write(),
+        Some("answers") => return cases::answers(),
+        _ => {}
     }
     let words: Vec<u64> = std::env::args().skip(1).filter_map(|word| word.parse().ok()).collect();
     let (n, seed) = (*words.first().unwrap_or(&10_000) as usize, *words.get(1).unwrap_or(&1));
