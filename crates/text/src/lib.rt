@@ -10,7 +10,7 @@ ghost use Rattle.text.specs.Chars.{within, is-ascii, is-space, is-contro
 ghost use Rattle.text.specs.Utf8.{tail, row, starts3, starts4, join, char-of, char, size-of, code-at, chars, encode, utf8, is-utf8};
 ghost use Rattle.text.specs.Put.{put-size, put-at};
 ghost use Rattle.text.specs.Cut.{cut, splits, cut-end};
-ghost use Rattle.text.specs.Ascii.{AsciiTo};
+ghost use Rattle.text.specs.Run.{RunTo, other};
 ghost use Rattle.text.specs.Find.{found};
 ghost use Rattle.text.specs.Trim.{trim-start, trim-end, trim, start-of, end-of, space-at, space-before};
 
@@ -190,7 +190,7 @@ fn is_ascii_block(s: &[u8], i: usize) -> bool
 // Where the blocks of 32 ASCII bytes from i on end.
 fn ascii_blocks(s: &[u8], i: usize) -> usize
     requires { ⌜ i ≤ length (now s) ⌝ }
-    ensures { λ r. ⌜ AsciiTo (now (s .entry)) i r ⌝ }
+    ensures { λ r. ⌜ RunTo is-ascii (now (s .entry)) i r ⌝ }
 {
     let mut j = i;
     while 32 <= s.len() - j {
@@ -319,16 +319,60 @@ pub fn trim(s: &[u8]) -> &[u8]
     trim_end(trim_start(s))
 }
 
-// The first b of s at or after i.
+// Whether the 32 bytes from i on are other bytes than b, tested as in `is_ascii_block`.
+fn is_other_block(s: &[u8], i: usize, b: u8) -> bool
+    requires { ⌜ i + 32 ≤ length (now s) ⌝ }
+    ensures { λ r. ⌜ r ≡ all (other b) (take 32 (drop i (now (s .entry)))) ⌝ }
+{
+    let mut others = true;
+    let mut k = 0;
+    while k < 32 {
+        others = others & (s[i + k] != b);
+        k += 1;
+    }
+    others
+}
+
+// Where the blocks of 32 bytes from i on without b end.
+fn other_blocks(s: &[u8], i: usize, b: u8) -> usize
+    requires { ⌜ i ≤ length (now s) ⌝ }
+    ensures { λ r. ⌜ RunTo (other b) (now (s .entry)) i r ⌝ }
+{
+    let mut j = i;
+    while 32 <= s.len() - j {
+        if !is_other_block(s, j, b) {
+            return j;
+        }
+        j += 32;
+    }
+    j
+}
+
+// The first b of s at or after i. Most that is looked for is near, so the first 8 bytes are looked at one by one.
 pub fn find(s: &[u8], i: usize, b: u8) -> Found
     ensures { λ r. ⌜ r ≡ found i (index (b ∷ []) (drop i (now (s .entry)))) ⌝ }
 {
+    if s.len() <= i {
+        return Found::Nowhere;
+    }
     let mut j = i;
-    while j < s.len() {
+    let mut k: usize = 0;
+    while k < 8 {
+        if s.len() <= j {
+            return Found::Nowhere;
+        }
         if s[j] == b {
             return Found::Here(j);
         }
         j += 1;
+        k += 1;
+    }
+    let mut e = other_blocks(s, j, b);
+    while e < s.len() {
+        if s[e] == b {
+            return Found::Here(e);
+        }
+        e += 1;
     }
     Found::Nowhere
 }

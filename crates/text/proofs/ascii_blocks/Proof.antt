@@ -1,28 +1,24 @@
 -- `text::ascii_blocks` meets its contract. The loop's invariant: what it passed is ASCII.
 -- Assumes nothing.
-use Prim.Native.Nat.{ℕ, _+_, _-_, _≤_, _<_}
+use Prim.Native.Nat.{_-_}
 use native.Mathlib.Omega.{arith}
-use mathlib.Core.Path.{_≡_, refl, sym, ap, _∙_}
-use mathlib.Core.List.{List}
-use mathlib.Core.Bool.{true}
+use mathlib.Core.Path.{sym, _∙_}
 use borrow.Author.Tests.{not-false}
-use lib.ListN.{length, take, drop, length-drop}
-use lib.Seq.{drop-drop}
-use Rattle.text.specs.Words.{all, take-while}
+use lib.ListN.{length}
 use Rattle.text.specs.Chars.{is-ascii}
-use Rattle.text.specs.Ascii.{AsciiTo}
-use Rattle.text.proofs.AsciiLaws.{run-block}
+use Rattle.text.specs.Run.{RunTo}
+use Rattle.text.proofs.RunLaws.{at-start, past-block}
 use Rattle.text.proofs.ascii_blocks.Statement.{statement}
 use Rattle.text.proofs.ascii_blocks.Tie as tie
 
 abbrev Inv-loop : tie.InvT-loop
-Inv-loop s i j₀ j = AsciiTo s i j
+Inv-loop s i j₀ j = RunTo is-ascii s i j
 
 abbrev μ-loop : tie.MeasureT-loop
 μ-loop s i j₀ j = length s - j
 
 loop-holds : tie.Need-loop-holds Inv-loop μ-loop
-loop-holds c = record { low = omega arith; high = omega arith; run = refl }
+loop-holds c = at-start is-ascii _ _ (omega arith)
 
 sub-loop : tie.Need-sub-loop Inv-loop μ-loop
 sub-loop c = c .loop .inv .high
@@ -42,16 +38,8 @@ loop-less c = let h = c .before .before .before .loop .inv .high in omega arith
 loop-again : tie.Need-loop-again Inv-loop μ-loop
 loop-again c =
     let v = c .before .before .before .loop .inv in
-    let s = c .before .before .before .before .before .args .s .now in
-    let j = c .before .before .before .loop .j in
-    let t : all is-ascii (take 32 (drop j s)) ≡ true =
-    sym (c .before .is-ascii-block .ensures) ∙ not-false (c .before .is-ascii-block .result) (c .if1 .left)
-    in
-    let l = v .high in
-    let b = run-block 32 (drop j s) (omega (arith, length-drop j s)) t in
-    let d = ap (λ (x : List ℕ). length (take-while is-ascii x)) (drop-drop 32 j s) in
-    let r = v .run in
-    record { low = omega (arith, v .low); high = omega arith; run = omega arith }
+    let h = v .high in
+    past-block is-ascii _ _ 32 _ v (omega arith) (sym (c .before .is-ascii-block .ensures) ∙ not-false (c .before .is-ascii-block .result) (c .if1 .left))
 
 returns-2 : tie.Need-returns-2 Inv-loop μ-loop
 returns-2 c = c .before .loop .inv

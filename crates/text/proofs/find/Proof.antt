@@ -1,46 +1,77 @@
--- `text::find` meets its contract. The loop's invariant: from j on as much stands before b as from i on, less what was passed.
+-- `text::find` meets its contract. The invariant of both loops: what was passed is not b.
 -- Assumes nothing.
+use Prim.Native.Nat.{_-_}
 use native.Mathlib.Omega.{arith}
-use mathlib.Core.Path.{_≡_, refl, sym, ap}
-use Prim.Native.Nat.{_+_, _-_}
-use lib.ListN.{length, drop}
-use Rattle.text.proofs.FindLaws.{until, until-next, until-here, until-past, found-is, nowhere-is}
+use mathlib.Core.Path.{sym}
+use lib.ListN.{length}
+use Rattle.text.specs.Run.{RunTo, other}
+use Rattle.text.proofs.RunLaws.{at-start, past-one, past-run}
+use Rattle.text.proofs.FindLaws.{nowhere-is, other-is, run-found, run-nowhere}
 use Rattle.text.proofs.find.Statement.{statement}
 use Rattle.text.proofs.find.Tie as tie
 
 abbrev Inv-loop : tie.InvT-loop
-Inv-loop s i b j₀ j = i + length (until b (drop i s)) ≡ j + length (until b (drop j s))
+Inv-loop s i b j₀ k₀ j k = RunTo (other b) s i j
 
 abbrev μ-loop : tie.MeasureT-loop
-μ-loop s i b j₀ j = length s - j
+μ-loop s i b j₀ k₀ j k = 8 - k
 
-loop-holds : tie.Need-loop-holds Inv-loop μ-loop
-loop-holds c = refl
+abbrev Inv-loop2 : tie.InvT-loop2
+Inv-loop2 s i b j k e₀ e = RunTo (other b) s i e
 
-shared-slice-read-if1 : tie.Need-shared-slice-read-if1 Inv-loop μ-loop
-shared-slice-read-if1 c = omega arith
+abbrev μ-loop2 : tie.MeasureT-loop2
+μ-loop2 s i b j k e₀ e = length s - e
 
-returns : tie.Need-returns Inv-loop μ-loop
-returns c =
-    let l = c .before .before .loop-test .taken in
-    let z = ap length (until-here (c .before .before .before .before .args .b) (c .before .before .before .before .args .s .now) (c .before .before .before .loop .j) l (c .if1 .taken)) in
-    let q : c .before .before .before .before .args .i + length (until (c .before .before .before .before .args .b) (drop (c .before .before .before .before .args .i) (c .before .before .before .before .args .s .now))) ≡ c .before .before .before .loop .j = omega arith in
-    sym (found-is _ _ _ _ q l)
+returns : tie.Need-returns Inv-loop μ-loop Inv-loop2 μ-loop2
+returns c = sym (nowhere-is (c .before .before .args .s .now) (c .before .before .args .i) (c .before .before .args .b) (omega arith))
 
-add-j : tie.Need-add-j Inv-loop μ-loop
+loop-holds : tie.Need-loop-holds Inv-loop μ-loop Inv-loop2 μ-loop2
+loop-holds c = at-start (other _) _ _ (omega arith)
+
+returns-2 : tie.Need-returns-2 Inv-loop μ-loop Inv-loop2 μ-loop2
+returns-2 c = sym (run-nowhere _ _ _ _ (c .before .before .loop .inv) (c .if2 .taken))
+
+shared-slice-read-if3 : tie.Need-shared-slice-read-if3 Inv-loop μ-loop Inv-loop2 μ-loop2
+shared-slice-read-if3 c = omega arith
+
+returns-3 : tie.Need-returns-3 Inv-loop μ-loop Inv-loop2 μ-loop2
+returns-3 c = sym (run-found _ _ _ _ (c .before .before .before .before .loop .inv) (c .before .before .if2 .left) (c .if3 .taken))
+
+add-j : tie.Need-add-j Inv-loop μ-loop Inv-loop2 μ-loop2
 add-j c = omega arith
 
-loop-less : tie.Need-loop-less Inv-loop μ-loop
+add-k : tie.Need-add-k Inv-loop μ-loop Inv-loop2 μ-loop2
+add-k c = omega arith
+
+loop-less : tie.Need-loop-less Inv-loop μ-loop Inv-loop2 μ-loop2
 loop-less c = omega arith
 
-loop-again : tie.Need-loop-again Inv-loop μ-loop
-loop-again c = omega (arith, until-next (c .before .before .before .before .args .b) (c .before .before .before .before .args .s .now) (c .before .before .before .loop .j) (c .before .before .loop-test .taken) (c .if1 .left))
+loop-again : tie.Need-loop-again Inv-loop μ-loop Inv-loop2 μ-loop2
+loop-again c = past-one (other _) _ _ _ (c .before .before .before .before .loop .inv) (c .before .before .if2 .left) (other-is _ _ (c .if3 .left))
 
-returns-2 : tie.Need-returns-2 Inv-loop μ-loop
-returns-2 c =
-    let z = ap length (until-past (c .before .before .args .b) (c .before .before .args .s .now) (c .before .loop .j) (c .loop-test .left)) in
-    let q : c .before .before .args .i + length (until (c .before .before .args .b) (drop (c .before .before .args .i) (c .before .before .args .s .now))) ≡ c .before .loop .j = omega arith in
-    sym (nowhere-is (c .before .before .args .s .now) (c .before .before .args .i) (c .before .before .args .b) (omega arith))
+other-blocks-requires : tie.Need-other-blocks-requires Inv-loop μ-loop Inv-loop2 μ-loop2
+other-blocks-requires c κs = c .before .loop .inv .high
+
+loop2-holds : tie.Need-loop2-holds Inv-loop μ-loop Inv-loop2 μ-loop2
+loop2-holds c = past-run (other _) _ _ _ _ (c .before .before .loop .inv) (c .other-blocks .ensures)
+
+shared-slice-read-if4 : tie.Need-shared-slice-read-if4 Inv-loop μ-loop Inv-loop2 μ-loop2
+shared-slice-read-if4 c = omega arith
+
+returns-4 : tie.Need-returns-4 Inv-loop μ-loop Inv-loop2 μ-loop2
+returns-4 c = sym (run-found _ _ _ _ (c .before .before .before .loop2 .inv) (c .before .before .loop2-test .taken) (c .if4 .taken))
+
+add-e : tie.Need-add-e Inv-loop μ-loop Inv-loop2 μ-loop2
+add-e c = omega arith
+
+loop2-less : tie.Need-loop2-less Inv-loop μ-loop Inv-loop2 μ-loop2
+loop2-less c = omega arith
+
+loop2-again : tie.Need-loop2-again Inv-loop μ-loop Inv-loop2 μ-loop2
+loop2-again c = past-one (other _) _ _ _ (c .before .before .before .loop2 .inv) (c .before .before .loop2-test .taken) (other-is _ _ (c .if4 .left))
+
+returns-5 : tie.Need-returns-5 Inv-loop μ-loop Inv-loop2 μ-loop2
+returns-5 c = sym (run-nowhere _ _ _ _ (c .before .loop2 .inv) (c .loop2-test .left))
 
 pub find-spec : {M : Type 1} → statement M
 find-spec =
@@ -48,10 +79,22 @@ find-spec =
     (tie.spec
     Inv-loop
     μ-loop
-    loop-holds
-    shared-slice-read-if1
+    Inv-loop2
+    μ-loop2
     returns
+    loop-holds
+    returns-2
+    shared-slice-read-if3
+    returns-3
     add-j
+    add-k
     loop-less
     loop-again
-    returns-2)
+    other-blocks-requires
+    loop2-holds
+    shared-slice-read-if4
+    returns-4
+    add-e
+    loop2-less
+    loop2-again
+    returns-5)

@@ -8,7 +8,7 @@ use lib.ListN.{length, getD, take, drop, length-drop}
 use lib.Seq.{getD-drop}
 use Rattle.text.specs.Words.{all}
 use Rattle.text.specs.Chars.{is-ascii}
-use Rattle.text.proofs.AsciiLaws.{all-next}
+use Rattle.text.proofs.RunLaws.{all-next}
 use Rattle.text.proofs.is_ascii_block.Statement.{statement}
 use Rattle.text.proofs.is_ascii_block.Tie as tie
 
