@@ -17,7 +17,7 @@ use lib.Seq.{drop-append-seam, drop-nil, drop-drop, take-add, take-append-seam, 
 use Rattle.text.specs.Chars.{within}
 use Rattle.text.specs.Words.{all}
 use Rattle.text.specs.Chars.{is-scalar}
-use Rattle.text.specs.Utf8.{size, IsScalar, Scalars, utf8, encode, tail, char-of, char, size-of, stray, next, scan, chars, code-at, is-utf8, decode}
+use Rattle.text.specs.Utf8.{size, IsScalar, Scalars, utf8, encode, tail, char-of, char, size-of, char-size, stray, next, scan, chars, code-at, is-utf8, decode}
 use Rattle.text.specs.declared.Char.{Char}
 use Rattle.text.specs.declared.Char.the-variants.{At, Bad, End}
 use Rattle.text.proofs.Tests.{decide, on, and-true, or-elim, or-right, within-true, within-is, within-below, within-above}
@@ -320,6 +320,37 @@ pub not-at : (x : Char) → (tagOf the-type x ≡ 1) ⊎ (tagOf the-type x ≡ 2
 not-at (At c n) h = absurd (⊎-elim (λ t. omega arith) (λ t. omega arith) h)
 not-at Bad h = inl refl
 not-at End h = inr refl
+
+-- ---- by the size alone: 0 where no character starts
+pub no-char : (s : List ℕ) (i : ℕ) → char-size (char (drop i s)) ≡ 0 → (char (drop i s) ≡ Bad) ⊎ (char (drop i s) ≡ End)
+no-char s i e = by (char (drop i s)) refl e
+  where
+    by : (x : Char) → char (drop i s) ≡ x → char-size x ≡ 0 → (x ≡ Bad) ⊎ (x ≡ End)
+    by (At c n) h z = let k = advance s i c n h in absurd (omega arith)
+    by Bad h z = inl refl
+    by End h z = inr refl
+
+pub some-char : (s : List ℕ) (i n : ℕ) → n ≡ char-size (char (drop i s)) → (n ≡ 0 → ⊥) → (c : ℕ) × Step s i c n
+some-char s i n e z = by (char (drop i s)) refl e
+  where
+    by : (x : Char) → char (drop i s) ≡ x → n ≡ char-size x → (c : ℕ) × Step s i c n
+    by (At c m) h q = (c, rw q (advance s i c m h))
+    by Bad h q = absurd (z q)
+    by End h q = absurd (z q)
+
+pub size-none : (s : List ℕ) (i : ℕ) → i < length s → char-size (char (drop i s)) ≡ 0 → size-of (char (drop i s)) ≡ 1
+size-none s i l e =
+    ⊎-elim (λ h. ap size-of h)
+    (λ h. let d = rw h at (sound (drop i s)) in absurd (omega (arith, ap length d, length-drop i s)))
+    (no-char s i e)
+
+pub size-some : (s : List ℕ) (i : ℕ) → (char-size (char (drop i s)) ≡ 0 → ⊥) → char-size (char (drop i s)) ≡ size-of (char (drop i s))
+size-some s i z = by (char (drop i s)) z
+  where
+    by : (x : Char) → (char-size x ≡ 0 → ⊥) → char-size x ≡ size-of x
+    by (At c n) z = refl
+    by Bad z = absurd (z refl)
+    by End z = absurd (z refl)
 
 -- bytes that are left, and start no character, are not UTF-8
 pub stuck : (s : List ℕ) (i : ℕ) → i < length s → (char (drop i s) ≡ Bad) ⊎ (char (drop i s) ≡ End) → all is-scalar (chars (drop i s)) ≡ false

@@ -87,6 +87,12 @@ size-of (At c n) = n
 size-of Bad = 1
 size-of End = 0
 
+-- the same, but 0 for a byte that starts none
+abbrev pub char-size : Char → ℕ
+char-size (At c n) = n
+char-size Bad = 0
+char-size End = 0
+
 -- the code of a byte that belongs to no character
 abbrev pub stray : ℕ → ℕ
 stray b = 0x110000 + b

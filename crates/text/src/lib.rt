@@ -7,7 +7,7 @@ ghost use lib.ListN.{length, getD, take, drop};
 ghost use lib.Seq.{sets};
 ghost use Rattle.text.specs.Words.{all, starts-with, index, take-while};
 ghost use Rattle.text.specs.Chars.{within, is-ascii, is-space, is-control, is-scalar};
-ghost use Rattle.text.specs.Utf8.{tail, row, starts3, starts4, join, char-of, char, size-of, code-at, chars, encode, utf8, is-utf8};
+ghost use Rattle.text.specs.Utf8.{tail, row, starts3, starts4, join, char-of, char, size-of, char-size, code-at, chars, encode, utf8, is-utf8};
 ghost use Rattle.text.specs.Put.{put-size, put-at};
 ghost use Rattle.text.specs.Cut.{cut, splits, cut-end};
 ghost use Rattle.text.specs.Run.{RunTo, other};
@@ -64,6 +64,12 @@ pub fn byte(s: &[u8], i: usize) -> u32
     ensures { λ r. ⌜ r ≡ getD (now (s .entry)) i 0 ⌝ }
 {
     if i < s.len() { s[i] as u32 } else { 0 }
+}
+
+fn wide(b: u8) -> u32
+    ensures { λ r. ⌜ r ≡ b ⌝ }
+{
+    b as u32
 }
 
 pub fn is_scalar(c: u32) -> bool
@@ -137,6 +143,34 @@ fn char_of(a: u32, b: u32, c: u32, d: u32) -> Char
     Char::Bad
 }
 
+// How many bytes the character has that the bytes a b c d start with; 0 where they start none.
+fn size_of(a: u32, b: u32, c: u32, d: u32) -> usize
+    ensures { λ r. ⌜ r ≡ char-size (char-of a b c d) ⌝ }
+{
+    if a <= 0x7F {
+        return 1;
+    }
+    if !is_tail(b) {
+        return 0;
+    }
+    if within(0xC2, 0xDF, a) {
+        return 2;
+    }
+    if !is_tail(c) {
+        return 0;
+    }
+    if is_start3(a, b) {
+        return 3;
+    }
+    if !is_tail(d) {
+        return 0;
+    }
+    if is_start4(a, b) {
+        return 4;
+    }
+    0
+}
+
 // The character at i.
 pub fn read(s: &[u8], i: usize) -> Char
     ensures { λ r. ⌜ r ≡ char (drop i (now (s .entry))) ⌝ }
@@ -151,15 +185,31 @@ pub fn read(s: &[u8], i: usize) -> Char
     char_of(byte(s, i), byte(s, i + 1), byte(s, i + 2), byte(s, i + 3))
 }
 
+// How many bytes the character at i has; 0 where none starts. With four bytes left none is looked for past the end.
+fn char_size(s: &[u8], i: usize) -> usize
+    ensures { λ r. ⌜ r ≡ char-size (char (drop i (now (s .entry)))) ⌝ }
+{
+    if s.len() <= i {
+        return 0;
+    }
+    if 4 <= s.len() - i {
+        return size_of(wide(s[i]), wide(s[i + 1]), wide(s[i + 2]), wide(s[i + 3]));
+    }
+    size_of(byte(s, i), byte(s, i + 1), byte(s, i + 2), byte(s, i + 3))
+}
+
 // How many bytes the character at i has: 1 for a byte that starts none, 0 at the end.
 pub fn size_at(s: &[u8], i: usize) -> usize
     ensures { λ r. ⌜ r ≡ size-of (char (drop i (now (s .entry)))) ⌝ }
 {
-    match read(s, i) {
-        Char::At(_, n) => n,
-        Char::Bad => 1,
-        Char::End => 0,
+    if s.len() <= i {
+        return 0;
     }
+    let n = char_size(s, i);
+    if n == 0 {
+        return 1;
+    }
+    n
 }
 
 // The code at i: a character, or 0x110000 and a byte that starts none; 0 at the end.
@@ -223,12 +273,17 @@ pub fn ascii_end(s: &[u8], i: usize) -> usize
 pub fn is_utf8(s: &[u8]) -> bool
     ensures { λ r. ⌜ r ≡ is-utf8 (now (s .entry)) ⌝ }
 {
-    let mut i = ascii_end(s, 0);
+    let mut i = 0;
     while i < s.len() {
-        let Char::At(_, n) = read(s, i) else {
+        if s[i] < 0x80 {
+            i = ascii_end(s, i);
+            continue;
+        }
+        let n = char_size(s, i);
+        if n == 0 {
             return false;
-        };
-        i = ascii_end(s, i + n);
+        }
+        i += n;
     }
     true
 }

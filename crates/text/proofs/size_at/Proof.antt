@@ -1,33 +1,24 @@
 -- `text::size_at` meets its contract.
 -- Assumes nothing.
-use mathlib.Core.Path.{_≡_, refl, sym, ap, _∙_}
-use Rattle.text.specs.Utf8.{size-of}
+use mathlib.Core.Path.{_≡_, sym, ap, _∙_}
 use borrow.Author.Needs.{needs}
+use Rattle.text.specs.Utf8.{size-of}
+use Rattle.text.proofs.Utf8.{char-past}
+use Rattle.text.proofs.Laws.{size-none, size-some}
 use Rattle.text.proofs.size_at.Statement.{statement}
 use Rattle.text.proofs.size_at.Tie as tie
 
-read-requires : tie.Need-read-requires
-read-requires c κs = search needs
-
-enum-known-n : tie.Need-enum-known-n
-enum-known-n c = search needs
-
-enum-told : tie.Need-enum-told
-enum-told c = search needs
-
-enum-told-2 : tie.Need-enum-told-2
-enum-told-2 c = search needs
-
 returns : tie.Need-returns
-returns c = sym (ap size-of (sym (c .before .before .before .read .ensures) ∙ c .before .n .given .1))
+returns c = sym (ap size-of (char-past (c .before .before .args .s .now) (c .before .before .args .i) (c .if1 .taken)))
+
+char-size-requires : tie.Need-char-size-requires
+char-size-requires c κs = search needs
 
 returns-2 : tie.Need-returns-2
-returns-2 c = sym (ap size-of (sym (c .before .before .read .ensures) ∙ c .enum-told .given .1))
+returns-2 c = sym (size-none (c .before .before .before .before .args .s .now) (c .before .before .before .before .args .i) (c .before .before .if1 .left) (sym (c .before .char-size .ensures) ∙ c .if2 .taken))
 
 returns-3 : tie.Need-returns-3
-returns-3 c = sym (ap size-of (sym (c .before .before .read .ensures) ∙ c .enum-told2 .given .1))
+returns-3 c = c .before .char-size .ensures ∙ size-some (c .before .before .before .before .args .s .now) (c .before .before .before .before .args .i) (λ e. c .if2 .left (c .before .char-size .ensures ∙ e))
 
 pub size-at-spec : {M : Type 1} → statement M
-size-at-spec =
-    tie.close
-    (tie.spec read-requires enum-known-n enum-told enum-told-2 returns returns-2 returns-3)
+size-at-spec = tie.close (tie.spec returns char-size-requires returns-2 returns-3)
