@@ -17,7 +17,7 @@ use lib.Seq.{drop-append-seam, drop-nil, drop-drop, take-add, take-append-seam, 
 use Rattle.text.specs.Chars.{within}
 use Rattle.text.specs.Words.{all}
 use Rattle.text.specs.Chars.{is-scalar}
-use Rattle.text.specs.Utf8.{size, IsScalar, Scalars, utf8, encode, tail, char-of, char, size-of, char-size, stray, next, scan, chars, code-at, is-utf8, decode}
+use Rattle.text.specs.Utf8.{size, IsScalar, Scalars, utf8, encode, tail, char-of, char, size-of, char-size, char-code, stray, next, scan, chars, code-at, is-utf8, decode}
 use Rattle.text.specs.declared.Char.{Char}
 use Rattle.text.specs.declared.Char.the-variants.{At, Bad, End}
 use Rattle.text.proofs.Tests.{decide, on, and-true, or-elim, or-right, within-true, within-is, within-below, within-above}
@@ -427,6 +427,14 @@ code-bad s i e = code-first s i (stray (getD s i 0)) (chars (drop (i + 1) s)) (a
 pub code-end : (s : List ℕ) (i : ℕ) → char (drop i s) ≡ End → code-at s i ≡ 0
 unfolding code-at
 code-end s i e = let d = rw e at (sound (drop i s)) in rw (d, chars-nil)
+
+pub code-is : (s : List ℕ) (i : ℕ) → i < length s → code-at s i ≡ char-code (char (drop i s)) (getD s i 0)
+code-is s i l = by (char (drop i s)) refl
+  where
+    by : (x : Char) → char (drop i s) ≡ x → code-at s i ≡ char-code x (getD s i 0)
+    by (At c n) e = code-char s i c n e
+    by Bad e = code-bad s i e
+    by End e = let d = rw e at (sound (drop i s)) in absurd (omega (arith, ap length d, length-drop i s))
 
 pub record Turn (s : List ℕ) (i c : ℕ) : Type 0 where
   pub low : 1 ≤ length (utf8 c)

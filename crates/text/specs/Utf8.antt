@@ -97,7 +97,13 @@ char-size End = 0
 abbrev pub stray : ℕ → ℕ
 stray b = 0x110000 + b
 
--- the code for the byte b that `char` found this at, and those of what f gives for the count of bytes to pass over
+-- the code for the byte b that `char` found this at
+abbrev pub char-code : Char → ℕ → ℕ
+char-code (At c n) b = c
+char-code Bad b = stray b
+char-code End b = 0
+
+-- that code, and those of what f gives for the count of bytes to pass over
 abbrev pub next : Char → ℕ → (ℕ → List ℕ) → List ℕ
 next (At c n) b f = c ∷ f (pred n)
 next Bad b f = stray b ∷ f 0

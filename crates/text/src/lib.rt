@@ -7,7 +7,7 @@ ghost use lib.ListN.{length, getD, take, drop};
 ghost use lib.Seq.{sets};
 ghost use Rattle.text.specs.Words.{all, starts-with, index, take-while};
 ghost use Rattle.text.specs.Chars.{within, is-ascii, is-space, is-control, is-scalar};
-ghost use Rattle.text.specs.Utf8.{tail, row, starts3, starts4, join, char-of, char, size-of, char-size, code-at, chars, encode, utf8, is-utf8};
+ghost use Rattle.text.specs.Utf8.{tail, row, starts3, starts4, join, char-of, char, size-of, char-size, char-code, code-at, chars, encode, utf8, is-utf8};
 ghost use Rattle.text.specs.Put.{put-size, put-at};
 ghost use Rattle.text.specs.Cut.{cut, splits, cut-end};
 ghost use Rattle.text.specs.Run.{RunTo, other};
@@ -115,34 +115,6 @@ fn join(v: u32, b: u32) -> u32
     v * 64 + (b - 0x80)
 }
 
-// The character that the bytes a b c d start with.
-fn char_of(a: u32, b: u32, c: u32, d: u32) -> Char
-    ensures { λ r. ⌜ r ≡ char-of a b c d ⌝ }
-{
-    if a <= 0x7F {
-        return Char::At(a, 1);
-    }
-    if !is_tail(b) {
-        return Char::Bad;
-    }
-    if within(0xC2, 0xDF, a) {
-        return Char::At(join(a - 0xC0, b), 2);
-    }
-    if !is_tail(c) {
-        return Char::Bad;
-    }
-    if is_start3(a, b) {
-        return Char::At(join(join(a - 0xE0, b), c), 3);
-    }
-    if !is_tail(d) {
-        return Char::Bad;
-    }
-    if is_start4(a, b) {
-        return Char::At(join(join(join(a - 0xF0, b), c), d), 4);
-    }
-    Char::Bad
-}
-
 // How many bytes the character has that the bytes a b c d start with; 0 where they start none.
 fn size_of(a: u32, b: u32, c: u32, d: u32) -> usize
     ensures { λ r. ⌜ r ≡ char-size (char-of a b c d) ⌝ }
@@ -171,6 +143,46 @@ fn size_of(a: u32, b: u32, c: u32, d: u32) -> usize
     0
 }
 
+// The character of n bytes that the bytes a b c d start with.
+fn code_of(n: usize, a: u32, b: u32, c: u32, d: u32) -> u32
+    requires { ⌜ (n ≡ char-size (char-of a b c d)) × (0 < n) ⌝ }
+    ensures { λ r. ⌜ char-of a b c d ≡ Char.At r n ⌝ }
+{
+    if n == 1 {
+        return a;
+    }
+    if n == 2 {
+        return join(a - 0xC0, b);
+    }
+    if n == 3 {
+        return join(join(a - 0xE0, b), c);
+    }
+    join(join(join(a - 0xF0, b), c), d)
+}
+
+// The character that the bytes a b c d start with.
+fn char_of(a: u32, b: u32, c: u32, d: u32) -> Char
+    ensures { λ r. ⌜ r ≡ char-of a b c d ⌝ }
+{
+    let n = size_of(a, b, c, d);
+    if n == 0 {
+        return Char::Bad;
+    }
+    Char::At(code_of(n, a, b, c, d), n)
+}
+
+// The code that the bytes a b c d start with: a character, or 0x110000 and the byte a.
+fn code_or_stray(a: u32, b: u32, c: u32, d: u32) -> u32
+    requires { ⌜ a < 0x100 ⌝ }
+    ensures { λ r. ⌜ r ≡ char-code (char-of a b c d) a ⌝ }
+{
+    let n = size_of(a, b, c, d);
+    if n == 0 {
+        return 0x110000 + a;
+    }
+    code_of(n, a, b, c, d)
+}
+
 // The character at i.
 pub fn read(s: &[u8], i: usize) -> Char
     ensures { λ r. ⌜ r ≡ char (drop i (now (s .entry))) ⌝ }
@@ -185,16 +197,19 @@ pub fn read(s: &[u8], i: usize) -> Char
     char_of(byte(s, i), byte(s, i + 1), byte(s, i + 2), byte(s, i + 3))
 }
 
-// How many bytes the character at i has; 0 where none starts. With four bytes left none is looked for past the end.
-fn char_size(s: &[u8], i: usize) -> usize
+// How many bytes the character at i has; 0 where none starts. With four bytes from i on, so that none is tested for being there.
+fn size4(s: &[u8], i: usize) -> usize
+    requires { ⌜ i + 4 ≤ length (now s) ⌝ }
     ensures { λ r. ⌜ r ≡ char-size (char (drop i (now (s .entry)))) ⌝ }
 {
-    if s.len() <= i {
-        return 0;
-    }
-    if 4 <= s.len() - i {
-        return size_of(wide(s[i]), wide(s[i + 1]), wide(s[i + 2]), wide(s[i + 3]));
-    }
+    size_of(wide(s[i]), wide(s[i + 1]), wide(s[i + 2]), wide(s[i + 3]))
+}
+
+// The same with fewer bytes.
+fn size_near_end(s: &[u8], i: usize) -> usize
+    requires { ⌜ i < length (now s) ⌝ }
+    ensures { λ r. ⌜ r ≡ char-size (char (drop i (now (s .entry)))) ⌝ }
+{
     size_of(byte(s, i), byte(s, i + 1), byte(s, i + 2), byte(s, i + 3))
 }
 
@@ -205,7 +220,14 @@ pub fn size_at(s: &[u8], i: usize) -> usize
     if s.len() <= i {
         return 0;
     }
-    let n = char_size(s, i);
+    if s.len() - i < 4 {
+        let k = size_near_end(s, i);
+        if k == 0 {
+            return 1;
+        }
+        return k;
+    }
+    let n = size4(s, i);
     if n == 0 {
         return 1;
     }
@@ -216,38 +238,40 @@ pub fn size_at(s: &[u8], i: usize) -> usize
 pub fn code_at(s: &[u8], i: usize) -> u32
     ensures { λ r. ⌜ r ≡ code-at (now (s .entry)) i ⌝ }
 {
-    match read(s, i) {
-        Char::At(c, _) => c,
-        Char::Bad => 0x110000 + byte(s, i),
-        Char::End => 0,
+    if s.len() <= i {
+        return 0;
     }
+    if s.len() - i < 4 {
+        return code_or_stray(byte(s, i), byte(s, i + 1), byte(s, i + 2), byte(s, i + 3));
+    }
+    code_or_stray(wide(s[i]), wide(s[i + 1]), wide(s[i + 2]), wide(s[i + 3]))
 }
 
-// Whether the 32 bytes from i on are ASCII. One test a byte and no way out of the loop, so that the compiler can take many bytes at once.
+// Whether the 64 bytes from i on are ASCII. One test a byte and no way out of the loop, so that the compiler can take many bytes at once.
 fn is_ascii_block(s: &[u8], i: usize) -> bool
-    requires { ⌜ i + 32 ≤ length (now s) ⌝ }
-    ensures { λ r. ⌜ r ≡ all is-ascii (take 32 (drop i (now (s .entry)))) ⌝ }
+    requires { ⌜ i + 64 ≤ length (now s) ⌝ }
+    ensures { λ r. ⌜ r ≡ all is-ascii (take 64 (drop i (now (s .entry)))) ⌝ }
 {
     let mut ascii = true;
     let mut k = 0;
-    while k < 32 {
+    while k < 64 {
         ascii = ascii & (s[i + k] < 0x80);
         k += 1;
     }
     ascii
 }
 
-// Where the blocks of 32 ASCII bytes from i on end.
+// Where the blocks of 64 ASCII bytes from i on end.
 fn ascii_blocks(s: &[u8], i: usize) -> usize
     requires { ⌜ i ≤ length (now s) ⌝ }
     ensures { λ r. ⌜ RunTo is-ascii (now (s .entry)) i r ⌝ }
 {
     let mut j = i;
-    while 32 <= s.len() - j {
+    while 64 <= s.len() - j {
         if !is_ascii_block(s, j) {
             return j;
         }
-        j += 32;
+        j += 64;
     }
     j
 }
@@ -279,7 +303,15 @@ pub fn is_utf8(s: &[u8]) -> bool
             i = ascii_end(s, i);
             continue;
         }
-        let n = char_size(s, i);
+        if s.len() - i < 4 {
+            let k = size_near_end(s, i);
+            if k == 0 {
+                return false;
+            }
+            i += k;
+            continue;
+        }
+        let n = size4(s, i);
         if n == 0 {
             return false;
         }

@@ -1,147 +1,23 @@
--- `text::char_of` meets its contract: each answer is the case of `char-of` that the tests on the way say.
+-- `text::char_of` meets its contract.
 -- Assumes nothing.
 use native.Mathlib.Omega.{arith}
 use mathlib.Core.Path.{_≡_, sym, _∙_}
-use mathlib.Core.Bool.{true, false}
-use lib.Dec.{leb}
-use borrow.Author.Tests.{le-leb, lt-leb, not-true, not-false}
-use Rattle.text.specs.Chars.{within}
-use Rattle.text.specs.Utf8.{tail, starts3, char-of}
-use Rattle.text.proofs.Tests.{within-true}
-use Rattle.text.proofs.Utf8.{two, three, four, Two, Three, Four}
 use borrow.Author.Needs.{needs}
+use Rattle.text.proofs.Utf8.{size-0}
 use Rattle.text.proofs.char_of.Statement.{statement}
 use Rattle.text.proofs.char_of.Tie as tie
 
--- what the tests say, at each place
-no-1 : (c : tie.Else1) → leb (c .before .args .a) 0x7F ≡ false
-no-1 c = lt-leb (c .before .args .a) 0x7F (c .if1 .left)
-
-b-tail : (c : tie.Else2) → tail (c .before .before .before .args .b) ≡ true
-b-tail c = sym (c .before .is-tail .ensures) ∙ not-false (c .before .is-tail .result) (c .if2 .left)
-
-no-2 : (c : tie.Else3) → within 0xC2 0xDF (c .before .before .before .before .before .args .a) ≡ false
-no-2 c = sym (c .before .within .ensures) ∙ c .if3 .left
-
-c-tail : (c : tie.Else4) → tail (c .before .before .before .before .before .before .before .args .c) ≡ true
-c-tail c = sym (c .before .is-tail2 .ensures) ∙ not-false (c .before .is-tail2 .result) (c .if4 .left)
-
-no-3 : (c : tie.Else5) → starts3 (c .before .before .before .before .before .before .before .before .before .args .a) (c .before .before .before .before .before .before .before .before .before .args .b) ≡ false
-no-3 c = sym (c .before .is-start3 .ensures) ∙ c .if5 .left
-
-d-tail : (c : tie.Else6) → tail (c .before .before .before .before .before .before .before .before .before .before .before .args .d) ≡ true
-d-tail c = sym (c .before .is-tail3 .ensures) ∙ not-false (c .before .is-tail3 .result) (c .if6 .left)
-
-row-2 : (c : tie.Then3) → Two (c .before .before .before .before .before .args .a) (c .before .before .before .before .before .args .b)
-row-2 c = two _ _ (b-tail (c .before .before)) (sym (c .before .within .ensures) ∙ c .if3 .taken)
-
-row-3 : (c : tie.Then5) → Three (c .before .before .before .before .before .before .before .before .before .args .a) (c .before .before .before .before .before .before .before .before .before .args .b) (c .before .before .before .before .before .before .before .before .before .args .c)
-row-3 c = three _ _ _ (c-tail (c .before .before)) (sym (c .before .is-start3 .ensures) ∙ c .if5 .taken)
-
-row-4 : (c : tie.Then7) → Four (c .before .before .before .before .before .before .before .before .before .before .before .before .before .args .a) (c .before .before .before .before .before .before .before .before .before .before .before .before .before .args .b) (c .before .before .before .before .before .before .before .before .before .before .before .before .before .args .c) (c .before .before .before .before .before .before .before .before .before .before .before .before .before .args .d)
-row-4 c = four _ _ _ _ (c-tail (c .before .before .before .before .before .before)) (d-tail (c .before .before)) (sym (c .before .is-start4 .ensures) ∙ c .if7 .taken)
+size-of-requires : tie.Need-size-of-requires
+size-of-requires c κs = search needs
 
 returns : tie.Need-returns
-unfolding char-of
-returns c = simp (le-leb (c .before .args .a) 0x7F (c .if1 .taken))
+returns c = sym (size-0 _ _ _ _ (sym (c .before .size-of .ensures) ∙ c .if1 .taken))
 
-is-tail-requires : tie.Need-is-tail-requires
-is-tail-requires c κs = search needs
+code-of-requires : tie.Need-code-of-requires
+code-of-requires c κs = (c .before .size-of .ensures, omega arith)
 
 returns-2 : tie.Need-returns-2
-unfolding char-of
-returns-2 c = simp (no-1 (c .before .before), sym (c .before .is-tail .ensures) ∙ not-true (c .before .is-tail .result) (c .if2 .taken))
-
-within-requires : tie.Need-within-requires
-within-requires c κs = search needs
-
-sub-join : tie.Need-sub-join
-sub-join c = omega (arith, row-2 c)
-
-join-requires : tie.Need-join-requires
-join-requires c κs = let h = row-2 c in (omega arith, b-tail (c .before .before))
-
-returns-3 : tie.Need-returns-3
-unfolding char-of
-returns-3 c = simp (no-1 (c .before .before .before .before .before), b-tail (c .before .before .before), sym (c .before .before .within .ensures) ∙ c .before .if3 .taken, c .join .ensures)
-
-is-tail-requires-2 : tie.Need-is-tail-requires-2
-is-tail-requires-2 c κs = search needs
-
-returns-4 : tie.Need-returns-4
-unfolding char-of
-returns-4 c = simp (no-1 (c .before .before .before .before .before .before), b-tail (c .before .before .before .before), no-2 (c .before .before), sym (c .before .is-tail2 .ensures) ∙ not-true (c .before .is-tail2 .result) (c .if4 .taken))
-
-is-start3-requires : tie.Need-is-start3-requires
-is-start3-requires c κs = search needs
-
-sub-join-2 : tie.Need-sub-join-2
-sub-join-2 c = omega (arith, row-3 c)
-
-join-requires-2 : tie.Need-join-requires-2
-join-requires-2 c κs = let h = row-3 c in (omega arith, b-tail (c .before .before .before .before .before .before))
-
-join-requires-3 : tie.Need-join-requires-3
-join-requires-3 c κs = let h = row-3 (c .before) in (omega (arith, c .join2 .ensures), c-tail (c .before .before .before))
-
-returns-5 : tie.Need-returns-5
-unfolding char-of
-returns-5 c = simp (no-1 (c .before .before .before .before .before .before .before .before .before .before), b-tail (c .before .before .before .before .before .before .before .before), no-2 (c .before .before .before .before .before .before), c-tail (c .before .before .before .before), sym (c .before .before .before .is-start3 .ensures) ∙ c .before .before .if5 .taken, c .join3 .ensures, c .before .join2 .ensures)
-
-is-tail-requires-3 : tie.Need-is-tail-requires-3
-is-tail-requires-3 c κs = search needs
-
-returns-6 : tie.Need-returns-6
-unfolding char-of
-returns-6 c = simp (no-1 (c .before .before .before .before .before .before .before .before .before .before), b-tail (c .before .before .before .before .before .before .before .before), no-2 (c .before .before .before .before .before .before), c-tail (c .before .before .before .before), no-3 (c .before .before), sym (c .before .is-tail3 .ensures) ∙ not-true (c .before .is-tail3 .result) (c .if6 .taken))
-
-is-start4-requires : tie.Need-is-start4-requires
-is-start4-requires c κs = search needs
-
-sub-join-3 : tie.Need-sub-join-3
-sub-join-3 c = omega (arith, row-4 c)
-
-join-requires-4 : tie.Need-join-requires-4
-join-requires-4 c κs = let h = row-4 c in (omega arith, b-tail (c .before .before .before .before .before .before .before .before .before .before))
-
-join-requires-5 : tie.Need-join-requires-5
-join-requires-5 c κs = let h = row-4 (c .before) in (omega (arith, c .join4 .ensures), c-tail (c .before .before .before .before .before .before .before))
-
-join-requires-6 : tie.Need-join-requires-6
-join-requires-6 c κs = let h = row-4 (c .before .before) in (omega (arith, c .join5 .ensures, c .before .join4 .ensures), d-tail (c .before .before .before .before))
-
-returns-7 : tie.Need-returns-7
-unfolding char-of
-returns-7 c = simp (no-1 (c .before .before .before .before .before .before .before .before .before .before .before .before .before .before .before), b-tail (c .before .before .before .before .before .before .before .before .before .before .before .before .before), no-2 (c .before .before .before .before .before .before .before .before .before .before .before), c-tail (c .before .before .before .before .before .before .before .before .before), no-3 (c .before .before .before .before .before .before .before), d-tail (c .before .before .before .before .before), sym (c .before .before .before .before .is-start4 .ensures) ∙ c .before .before .before .if7 .taken, c .join6 .ensures, c .before .join5 .ensures, c .before .before .join4 .ensures)
-
-returns-8 : tie.Need-returns-8
-unfolding char-of
-returns-8 c = simp (no-1 (c .before .before .before .before .before .before .before .before .before .before .before .before), b-tail (c .before .before .before .before .before .before .before .before .before .before), no-2 (c .before .before .before .before .before .before .before .before), c-tail (c .before .before .before .before .before .before), no-3 (c .before .before .before .before), d-tail (c .before .before), sym (c .before .is-start4 .ensures) ∙ c .if7 .left)
+returns-2 c = sym (c .code-of .ensures)
 
 pub char-of-spec : {M : Type 1} → statement M
-char-of-spec =
-    tie.close
-    (tie.spec
-    returns
-    is-tail-requires
-    returns-2
-    within-requires
-    sub-join
-    join-requires
-    returns-3
-    is-tail-requires-2
-    returns-4
-    is-start3-requires
-    sub-join-2
-    join-requires-2
-    join-requires-3
-    returns-5
-    is-tail-requires-3
-    returns-6
-    is-start4-requires
-    sub-join-3
-    join-requires-4
-    join-requires-5
-    join-requires-6
-    returns-7
-    returns-8)
+char-of-spec = tie.close (tie.spec size-of-requires returns code-of-requires returns-2)

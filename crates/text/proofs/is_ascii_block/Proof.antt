@@ -13,10 +13,10 @@ use Rattle.text.proofs.is_ascii_block.Statement.{statement}
 use Rattle.text.proofs.is_ascii_block.Tie as tie
 
 abbrev Inv-loop : tie.InvT-loop
-Inv-loop s i ascii₀ k₀ ascii k = (ascii ≡ all is-ascii (take k (drop i s))) × (k ≤ 32)
+Inv-loop s i ascii₀ k₀ ascii k = (ascii ≡ all is-ascii (take k (drop i s))) × (k ≤ 64)
 
 abbrev μ-loop : tie.MeasureT-loop
-μ-loop s i ascii₀ k₀ ascii k = 32 - k
+μ-loop s i ascii₀ k₀ ascii k = 64 - k
 
 loop-holds : tie.Need-loop-holds Inv-loop μ-loop
 loop-holds c = (refl, omega arith)
@@ -43,7 +43,7 @@ loop-again c =
     (rw (c .before .before .loop .inv .0, ← getD-drop i s k 0) (sym (all-next is-ascii (drop i s) k h)), omega arith)
 
 returns : tie.Need-returns Inv-loop μ-loop
-returns c = let q : c .before .loop .k ≡ 32 = omega arith in c .before .loop .inv .0 ∙ rw q
+returns c = let q : c .before .loop .k ≡ 64 = omega arith in c .before .loop .inv .0 ∙ rw q
 
 pub is-ascii-block-spec : {M : Type 1} → statement M
 is-ascii-block-spec =
