@@ -16,8 +16,8 @@ use Rattle.text.specs.Utf8.{IsScalar, utf8, encode, tail, char, stray, c
 use Rattle.text.specs.Trim.{trim-start, trim-end, trim, start-of, end-of, is-space-of, space-at, space-before}
 use Rattle.text.specs.declared.Char.{Char}
 use Rattle.text.specs.declared.Char.the-variants.{At, Bad, End}
-use Rattle.text.proofs.Tests.{decide, on, and-true, within-above}
-use Rattle.text.proofs.Utf8.{utf8-1, utf8-2, utf8-3, utf8-stray, ranges, sound, char-utf8}
+use Rattle.text.proofs.Tests.{decide, on, and-true, or-false, within-below, within-above}
+use Rattle.text.proofs.Utf8.{utf8-1, utf8-2, utf8-3, utf8-stray, ranges, sound, char-utf8, char-ascii}
 use Rattle.text.proofs.Laws.{Step, advance, advance-bad, advance-end, by-chars, encode-chars, encode-append, chars-nil, chars-utf8, chars-bad, chars-encode, chars-append, utf8-lead, utf8-size}
 
 -- ---- spaces
@@ -46,6 +46,29 @@ space-low c e =
     let z : true ≡ false = cc in
     let y : _≡_ {A = ℕ} 0 1 = cc in absurd (omega arith))
     (decide (leb c 12288))
+
+-- by one test first: an ASCII character, or another
+pub space-ascii : (c : ℕ) → c < 0x80 → is-space c ≡ (within 9 13 c || eqb c 32)
+unfolding is-space
+space-ascii c h =
+    simp (
+      ne-eqb c 133 (omega arith),
+      ne-eqb c 160 (omega arith),
+      ne-eqb c 5760 (omega arith),
+      within-below 8192 8202 c (omega arith),
+      ne-eqb c 8232 (omega arith),
+      ne-eqb c 8233 (omega arith),
+      ne-eqb c 8239 (omega arith),
+      ne-eqb c 8287 (omega arith),
+      ne-eqb c 12288 (omega arith),
+      or-false,
+    )
+
+pub space-high : (c : ℕ) → 0x80 ≤ c
+    → is-space c
+    ≡ (eqb c 133 || eqb c 160 || eqb c 5760 || within 8192 8202 c || eqb c 8232 || eqb c 8233 || eqb c 8239 || eqb c 8287 || eqb c 12288)
+unfolding is-space
+space-high c h = rw (within-above 9 13 c (omega arith) (omega arith), ne-eqb c 32 (omega arith))
 
 -- a space has at most three bytes
 pub space-size : (c : ℕ) → c ≤ 12288 → length (utf8 c) ≤ 3
@@ -130,6 +153,21 @@ back-is s e c cs l h q =
       ap char (ap (drop (e - length (utf8 c))) (sym r) ∙ drop-at (encode cs) (utf8 c ++ drop e s) (e - length (utf8 c)) (omega arith))
           ∙ char-utf8 c (drop e s) h,
     )
+
+-- an ASCII byte before byte e
+module _ (s : List ℕ) (e : ℕ) (l : 1 ≤ e) (h : e ≤ length s) (low : getD s (e - 1) 0 < 0x80) where
+  back-ascii : chars (take e s) ≡ chars (take (e - 1) s) ++ (getD s (e - 1) 0 ∷ [])
+  back-ascii = back s e (getD s (e - 1) 0) 1 l (char-ascii s (e - 1) (omega arith) low)
+
+  pub end-low-space : is-space (getD s (e - 1) 0) ≡ true → trim-end (chars (take e s)) ≡ trim-end (chars (take (e - 1) s))
+  end-low-space q = ap trim-end back-ascii ∙ end-snoc (chars (take (e - 1) s)) (getD s (e - 1) 0) ∙ rw q
+
+  pub end-low-other : is-space (getD s (e - 1) 0) ≡ false → trim-end (chars (take e s)) ≡ chars (take e s)
+  end-low-other q = rw back-ascii (end-snoc (chars (take (e - 1) s)) (getD s (e - 1) 0) ∙ rw q)
+
+pub end-nil : (s : List ℕ) (e : ℕ) → e ≤ 0 → trim-end (chars (take e s)) ≡ chars (take e s)
+unfolding trim-end-matches drop-while
+end-nil s e h = let q : e ≡ 0 = omega arith in rw (q, chars-nil)
 
 -- ---- the space before an offset
 space-of : (x : Char) (k : ℕ) → is-space-of x k ≡ true → (c : ℕ) × (is-space c ≡ true) × (x ≡ At c k)

@@ -12,7 +12,7 @@ ghost use Rattle.text.specs.Put.{put-size, put-at};
 ghost use Rattle.text.specs.Cut.{cut, splits, cut-end};
 ghost use Rattle.text.specs.Run.{RunTo, other};
 ghost use Rattle.text.specs.Find.{found};
-ghost use Rattle.text.specs.Trim.{trim-start, trim-end, trim, start-of, end-of, space-at, space-before};
+ghost use Rattle.text.specs.Trim.{trim-start, trim-end, trim, start-of, end-of, is-space-of, space-at, space-before};
 
 // What stands at an offset of a byte slice.
 pub enum Char {
@@ -40,9 +40,10 @@ pub fn within(lo: u32, hi: u32, x: u32) -> bool
 pub fn is_space(c: u32) -> bool
     ensures { λ r. ⌜ r ≡ is-space c ⌝ }
 {
-    within(9, 13, c)
-        | (c == 32)
-        | (c == 133)
+    if c < 0x80 {
+        return within(9, 13, c) | (c == 32);
+    }
+    (c == 133)
         | (c == 160)
         | (c == 5760)
         | within(8192, 8202, c)
@@ -326,25 +327,48 @@ pub fn start_of(s: &[u8]) -> usize
 {
     let mut i = 0;
     while i < s.len() {
-        let Char::At(c, n) = read(s, i) else {
-            return i;
-        };
+        let b = s[i];
+        if b < 0x80 {
+            if !is_space(wide(b)) {
+                return i;
+            }
+            i += 1;
+            continue;
+        }
+        let c = code_or_stray(wide(b), byte(s, i + 1), byte(s, i + 2), byte(s, i + 3));
         if !is_space(c) {
             return i;
         }
-        i += n;
+        i += width(c);
     }
     i
+}
+
+// Whether a space of k bytes is what the bytes a b c d start with.
+fn is_space_of(a: u32, b: u32, c: u32, d: u32, k: usize) -> bool
+    ensures { λ r. ⌜ r ≡ is-space-of (char-of a b c d) k ⌝ }
+{
+    let n = size_of(a, b, c, d);
+    if n == 0 {
+        return false;
+    }
+    is_space(code_of(n, a, b, c, d)) & (n == k)
 }
 
 // Whether a space of k bytes stands at i.
 fn space_at(s: &[u8], i: usize, k: usize) -> bool
     ensures { λ r. ⌜ r ≡ space-at (drop i (now (s .entry))) k ⌝ }
 {
-    let Char::At(c, n) = read(s, i) else {
+    if s.len() <= i {
         return false;
-    };
-    is_space(c) & (n == k)
+    }
+    is_space_of(
+        byte(s, i),
+        byte(s, i + 1),
+        byte(s, i + 2),
+        byte(s, i + 3),
+        k,
+    )
 }
 
 // How many bytes the space has that ends before e; 0 where none does.
@@ -377,13 +401,22 @@ pub fn end_of(s: &[u8]) -> usize
     ensures { λ r. ⌜ r ≡ end-of (now (s .entry)) ⌝ }
 {
     let mut e = s.len();
-    loop {
+    while 0 < e {
+        let b = s[e - 1];
+        if b < 0x80 {
+            if !is_space(wide(b)) {
+                return e;
+            }
+            e -= 1;
+            continue;
+        }
         let k = space_before(s, e);
         if k == 0 {
             return e;
         }
         e -= k;
     }
+    e
 }
 
 pub fn trim_start(s: &[u8]) -> &[u8]
