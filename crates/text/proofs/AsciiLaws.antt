@@ -9,16 +9,17 @@ use borrow.Author.Tests.{eq-eqb, ne-eqb, ltb-true, ltb-false, lt-ltb, le-ltb, le
 use native.Mathlib.Numerals.{add-one}
 use native.Mathlib.Omega.{arith}
 use lib.Dec.{ltb, eqb, eqb·suc-zero}
-use lib.ListN.{length, getD, take, drop, length-append, length-drop, drop-of-length-le}
-use lib.Seq.{drop-cons, drop-drop, getD-take, take-at, length-take-le, sets}
+use lib.ListN.{length, getD, take, drop, length-append, length-drop, take-append-drop, drop-of-length-le}
+use lib.Seq.{drop-cons, drop-drop, getD-take, take-at, take-append-le, drop-append-le, length-take-le, sets}
+use native.Mathlib.Nat.{add-zero}
 use Rattle.text.specs.Utf8.{IsScalar, Scalars, utf8, encode, chars, char, size-of}
 use Rattle.text.specs.Words.{starts-with, all, take-while}
 use Rattle.text.specs.Chars.{is-ascii, is-scalar}
-use Rattle.text.proofs.Tests.{decide, on, and-false}
-use Rattle.text.proofs.Utf8.{utf8-1, char-1}
-use Rattle.text.proofs.Laws.{Next, next-is, Tails, Long, utf8-long, chars-nil, chars-at, encode-append, utf8-size}
+use Rattle.text.proofs.Tests.{decide, on, and-true, and-false}
+use Rattle.text.proofs.Utf8.{utf8-1, char-1, char-ascii}
+use Rattle.text.proofs.Laws.{Next, next-is, Pos, pos-next, Tails, Long, utf8-long, chars-nil, chars-at, encode-append, utf8-size}
 use Rattle.text.proofs.PutLaws.{put-parts}
-use Rattle.text.proofs.RunLaws.{run-le}
+use Rattle.text.proofs.RunLaws.{run-le, run-take, run-all, run-next}
 
 abbrev pub Ascii : List ℕ → Type 0
 Ascii [] = Unit
@@ -118,3 +119,46 @@ run-to s i j l e =
     let h = run-le is-ascii (drop i s) in
     let d = length-drop i s in
     (run-scalar (drop i s) ∙ rw (drop-drop n i s, e), omega arith, omega arith)
+
+-- ---- from byte i, where character k stands, on over ASCII
+pos-ascii : (m : ℕ) (s : List ℕ) (i k : ℕ) → Pos s i k → i + m ≤ length s → all is-ascii (take m (drop i s)) ≡ true → Pos s (i + m) (k + m)
+unfolding is-ascii
+pos-ascii zero s i k p l h = rw (add-zero i, add-zero k) p
+pos-ascii (suc m) s i k p l h =
+    let b : i < length s = omega arith in
+    let e = and-true (ltb (getD s i 0) 0x80) (all is-ascii (take m (drop (suc i) s))) (rw (drop-cons s i 0 b) at h) in
+    let n : Next s i 1 = rw (char-ascii s i b (ltb-true (getD s i 0) 0x80 (e .0))) at (next-is s i b) in
+    let r = pos-ascii m s (i + 1) (k + 1) (pos-next s i k 1 p n) (omega arith) (rw (add-one i) (e .1)) in
+    let x : i + suc m ≡ i + 1 + m = omega arith in
+    let y : k + suc m ≡ k + 1 + m = omega arith in
+    rw (x, y) r
+
+-- the run that ends at e, in the first j bytes
+module _ (s : List ℕ) (i j k e : ℕ) (l : i ≤ j) (h : j ≤ length s) (r : e ≡ i + length (take-while is-ascii (drop i (take j s)))) where
+  bound : (i ≤ e) × (e ≤ j)
+  bound =
+      let a = run-le is-ascii (drop i (take j s)) in
+      let b = length-drop i (take j s) in
+      let d = length-take-le j s h in
+      omega arith
+
+  pub pos-run : Pos s i k → (Pos s e (k + (e - i)) × (i ≤ e)) × (e ≤ j)
+  pos-run p =
+      let x = drop i (take j s) in
+      let m = length (take-while is-ascii x) in
+      let d = length-take-le j s h in
+      let a : drop i s ≡ x ++ drop j s = ap (drop i) (sym (take-append-drop j s)) ∙ drop-append-le i (take j s) (drop j s) (omega arith) in
+      let q : all is-ascii (take m (drop i s)) ≡ true =
+      ap (λ (y : List ℕ). all is-ascii (take m y)) a
+      ∙ ap (all is-ascii) (take-append-le m x (drop j s) (run-le is-ascii x) ∙ run-take is-ascii x)
+      ∙ run-all is-ascii x
+      in
+      let b = bound in
+      let z : e - i ≡ m = omega arith in
+      ((rw (z, r) (pos-ascii m s i k p (omega arith) q), b .0), b .1)
+
+  pub run-moves : i < j → getD s i 0 < 0x80 → i < e
+  run-moves n low =
+      let d = length-take-le j s h in
+      let z = run-next is-ascii (take j s) i (omega arith) (rw (getD-take j s i 0 n) (low-ascii (getD s i 0) low)) in
+      omega arith

@@ -652,18 +652,23 @@ pub fn count(s: &[u8]) -> usize
     k
 }
 
-// The first n characters of s.
+// The first n characters of s. Where no more bytes are left than characters may follow, all of s is taken.
 pub fn first(s: &[u8], n: usize) -> &[u8]
     ensures { λ r. ⌜ now r ≡ encode (take n (chars (now (s .entry)))) ⌝ }
 {
-    if s.len() <= n {
-        return s;
-    }
     let mut i = 0;
     let mut k = 0;
     while k < n {
-        if s.len() <= i {
+        let most = n - k;
+        if s.len() - i <= most {
             return s;
+        }
+        if s[i] < 0x80 {
+            let j = i + most;
+            let e = ascii_end(&s[..j], i);
+            k += e - i;
+            i = e;
+            continue;
         }
         i += size_at(s, i);
         k += 1;
