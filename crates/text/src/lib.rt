@@ -277,21 +277,33 @@ fn ascii_blocks(s: &[u8], i: usize) -> usize
     j
 }
 
-// Where the ASCII bytes from i on end.
+// Where the ASCII bytes from i on end. Runs are short in some texts, so the first 8 bytes are looked at one by one.
 pub fn ascii_end(s: &[u8], i: usize) -> usize
     ensures { λ r. ⌜ r ≡ i + length (take-while is-ascii (drop i (now (s .entry)))) ⌝ }
 {
     if s.len() <= i {
         return i;
     }
-    let mut j = ascii_blocks(s, i);
-    while j < s.len() {
+    let mut j = i;
+    let mut k: usize = 0;
+    while k < 8 {
+        if s.len() <= j {
+            return j;
+        }
         if 0x80 <= s[j] {
             return j;
         }
         j += 1;
+        k += 1;
     }
-    j
+    let mut e = ascii_blocks(s, j);
+    while e < s.len() {
+        if 0x80 <= s[e] {
+            return e;
+        }
+        e += 1;
+    }
+    e
 }
 
 // Whether all of s is UTF-8.
