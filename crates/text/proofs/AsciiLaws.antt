@@ -3,21 +3,21 @@
 use Prim.Native.Nat.{ℕ, zero, suc, _+_, _-_, _≤_, _<_}
 use mathlib.Core.Bool.{Bool, true, false, _&&_}
 use mathlib.Core.List.{List, [], _∷_, _++_, append-nil, append-assoc}
-use mathlib.Core.Logic.{_⊎_, inl, inr, ⊎-elim}
+use mathlib.Core.Logic.{_⊎_, ⊎-elim}
 use mathlib.Core.Path.{_≡_, refl, sym, ap, _∙_}
 use borrow.Author.Tests.{eq-eqb, ne-eqb, ltb-true, ltb-false, lt-ltb, le-ltb, le-leb}
 use native.Mathlib.Numerals.{add-one}
 use native.Mathlib.Omega.{arith}
 use lib.Dec.{ltb, eqb, eqb·suc-zero}
-use lib.ListN.{length, getD, take, drop, length-append, length-drop, take-append-drop, drop-of-length-le}
+use lib.ListN.{length, getD, take, drop, length-append, length-drop, take-append-drop}
 use lib.Seq.{drop-cons, drop-drop, getD-take, take-at, take-append-le, drop-append-le, length-take-le, sets}
 use native.Mathlib.Nat.{add-zero}
-use Rattle.text.specs.Utf8.{IsScalar, Scalars, utf8, encode, chars, char, size-of}
+use Rattle.text.specs.Utf8.{utf8, encode, chars, char, size-of}
 use Rattle.text.specs.Words.{starts-with, all, take-while}
 use Rattle.text.specs.Chars.{is-ascii, is-scalar}
 use Rattle.text.proofs.Tests.{decide, on, and-true, and-false}
 use Rattle.text.proofs.Utf8.{utf8-1, char-1, char-ascii}
-use Rattle.text.proofs.Laws.{Next, next-is, Pos, pos-next, Tails, Long, utf8-long, chars-nil, chars-at, encode-append, utf8-size}
+use Rattle.text.proofs.Laws.{Next, next-is, Pos, pos-next, chars-nil, chars-at, encode-append}
 use Rattle.text.proofs.PutLaws.{put-parts}
 use Rattle.text.proofs.RunLaws.{run-le, run-take, run-all, run-next}
 

@@ -1,27 +1,22 @@
 -- The laws of a search for one element: an ASCII character is found in the bytes where it is found in the characters.
 -- Assumes nothing.
-use Prim.Native.Nat.{ℕ, zero, suc, _+_, _-_, _≤_, _<_}
+use Prim.Native.Nat.{ℕ, suc, _+_, _-_, _≤_, _<_}
 use mathlib.Core.Bool.{Bool, true, false, cond, not, _&&_}
-use mathlib.Core.Option.{Option, none, some}
+use mathlib.Core.Option.{none, some}
 use mathlib.Core.List.{List, [], _∷_, _++_, append-cancel-left}
-use mathlib.Core.Logic.{_⊎_, inl, inr, ⊎-elim}
+use mathlib.Core.Logic.{_⊎_, ⊎-elim}
 use mathlib.Core.Path.{_≡_, refl, sym, ap, _∙_}
 use borrow.Author.Tests.{eqb-true, eqb-false, eq-eqb, ne-eqb, ltb-true, ltb-false, lt-ltb, le-ltb}
-use native.Mathlib.Numerals.{add-one}
 use native.Mathlib.Omega.{arith}
 use lib.Dec.{ltb, eqb, leb·suc-suc}
 use lib.ListN.{length, getD, take, drop, drop-of-length-le, length-drop}
-use lib.Seq.{drop-cons, drop-drop, drop-append-seam, take-append-seam}
+use lib.Seq.{drop-drop, drop-append-seam, take-append-seam}
 use Rattle.text.specs.Utf8.{IsScalar, utf8, tail, char, stray, chars}
 use Rattle.text.specs.Words.{if_then_else_, _>>=_, index, take-while}
 use Rattle.text.specs.Run.{RunTo, other}
 use Rattle.text.specs.Find.{found}
-use Rattle.text.specs.declared.Found.{Found}
 use Rattle.text.specs.declared.Found.the-variants.{Here, Nowhere}
-use denote.Enum.Declared.{tagOf}
-use Rattle.text.proofs.Found.{the-type}
-use Rattle.text.specs.declared.Char.{Char}
-use Rattle.text.specs.declared.Char.the-variants.{At, Bad, End}
+use Rattle.text.specs.declared.Char.the-variants.{Bad}
 use Rattle.text.proofs.Tests.{decide, on, within-below}
 use Rattle.text.proofs.Utf8.{utf8-1, char-1}
 use Rattle.text.proofs.RunLaws.{at-stop, at-end}
@@ -199,8 +194,3 @@ found-nowhere s i b e =
     let u = length (until b (drop i s)) in
     let f = ltb-false u (length (drop i s)) (nowhere-if i (ltb u (length (drop i s))) u (rw (index-until b (drop i s)) at e)) in
     sym (since-drop b s i) ∙ drop-of-length-le s {i = i + u} (omega (arith, f, length-drop i s))
-
--- the other arm of a `let .. else` on what `find` answers
-pub not-here : (x : Found) → tagOf the-type x ≡ 1 → x ≡ Nowhere
-not-here (Here j) h = absurd (omega arith)
-not-here Nowhere h = refl

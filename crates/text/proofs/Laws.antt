@@ -1,27 +1,25 @@
 -- The laws of `chars`, `encode` and `decode`.
 -- Assumes nothing.
-use Prim.Native.Nat.{ℕ, zero, suc, pred, _+_, _-_, _/_, _%_, _≤_, _<_}
-use mathlib.Core.Bool.{Bool, true, false, cond, _&&_, _||_}
+use Prim.Native.Nat.{ℕ, zero, suc, _+_, _≤_, _<_}
+use mathlib.Core.Bool.{Bool, true, false, cond}
 use mathlib.Core.List.{List, [], _∷_, _++_, append-assoc, append-nil}
-use mathlib.Core.Option.{Option, none, some}
+use mathlib.Core.Option.{none, some}
 use mathlib.Core.Logic.{_⊎_, inl, inr, ⊎-elim, _↔_}
 use mathlib.Core.Path.{_≡_, refl, sym, ap, _∙_, subst}
 use borrow.Author.Tests.{leb-true, le-leb, lt-leb, ltb-true, ltb-false}
 use native.Mathlib.Numerals.{add-one}
 use native.Mathlib.Omega.{arith}
 use lib.Dec.{leb, ltb}
-use denote.Enum.Declared.{tagOf}
-use Rattle.text.proofs.Char.{the-type}
-use lib.ListN.{length, getD, take, drop, length-append, length-drop, take-append-drop, drop-of-length-le}
-use lib.Seq.{drop-append-seam, drop-nil, drop-drop, take-add, take-append-seam, take-at, take-suc, drop-cons}
+use lib.ListN.{length, getD, take, drop, length-append, length-drop, drop-of-length-le}
+use lib.Seq.{drop-append-seam, drop-drop, take-add, take-at, take-suc, drop-cons}
 use Rattle.text.specs.Chars.{within}
 use Rattle.text.specs.Words.{all}
 use Rattle.text.specs.Chars.{is-scalar}
-use Rattle.text.specs.Utf8.{size, IsScalar, Scalars, utf8, encode, tail, char-of, char, size-of, char-size, char-code, stray, next, scan, chars, code-at, is-utf8, decode}
+use Rattle.text.specs.Utf8.{size, IsScalar, Scalars, utf8, encode, tail, char-of, char, size-of, char-size, char-code, stray, scan, chars, code-at, is-utf8, decode}
 use Rattle.text.specs.declared.Char.{Char}
 use Rattle.text.specs.declared.Char.the-variants.{At, Bad, End}
 use Rattle.text.proofs.Tests.{decide, on, and-true, or-elim, or-right, within-true, within-is, within-below, within-above}
-use Rattle.text.proofs.Utf8.{utf8-1, utf8-2, utf8-3, utf8-4, utf8-stray, ranges, top, Decoded, sound, char-at, char-1, char-utf8}
+use Rattle.text.proofs.Utf8.{utf8-1, utf8-2, utf8-3, utf8-4, utf8-stray, ranges, top, sound, char-at, char-1, char-utf8}
 
 -- ---- scalar values, as a test and as a fact
 pub scalar-true : (c : ℕ) → is-scalar c ≡ true → IsScalar c
@@ -227,11 +225,6 @@ tails-at [] h k l = absurd (omega arith)
 tails-at (b ∷ bs) h zero l = h .0
 tails-at (b ∷ bs) h (suc k) l = tails-at bs (h .1) k (omega arith)
 
-long-high : (bs : List ℕ) → Long bs → (k : ℕ) → k < length bs → 0x80 ≤ getD bs k 0
-long-high [] h k l = absurd h
-long-high (a ∷ bs) h zero l = omega arith
-long-high (a ∷ bs) h (suc k) l = tails-at bs (h .1) k (omega arith) .0
-
 long-tail : (bs : List ℕ) → Long bs → (k : ℕ) → suc k < length bs → (0x80 ≤ getD bs (suc k) 0) × (getD bs (suc k) 0 ≤ 0xBF)
 long-tail [] h k l = absurd h
 long-tail (a ∷ bs) h k l = tails-at bs (h .1) k (omega arith)
@@ -239,10 +232,6 @@ long-tail (a ∷ bs) h k l = tails-at bs (h .1) k (omega arith)
 long-lead : (bs : List ℕ) → Long bs → tail (getD bs 0 0) ≡ false
 long-lead [] h = absurd h
 long-lead (a ∷ bs) h = within-above 0x80 0xBF a (omega arith) (omega arith)
-
--- every byte of a character that is not ASCII is at least 128
-pub utf8-high : (c : ℕ) → IsScalar c → 0x80 ≤ c → (k : ℕ) → k < length (utf8 c) → 0x80 ≤ getD (utf8 c) k 0
-utf8-high c s m = long-high (utf8 c) (utf8-long c s m)
 
 -- every byte after the first is 128 to 191
 pub utf8-tail : (c : ℕ) → IsScalar c → (k : ℕ) → suc k < length (utf8 c) → (0x80 ≤ getD (utf8 c) (suc k) 0) × (getD (utf8 c) (suc k) 0 ≤ 0xBF)
@@ -314,12 +303,6 @@ advance-bad s i e =
 -- at the end
 pub advance-end : (s : List ℕ) (i : ℕ) → length s ≤ i → chars (drop i s) ≡ []
 advance-end s i h = rw (drop-of-length-le s h) chars-nil
-
--- ---- the other arm of a `let .. else` or an `if let` on what `read` answers
-pub not-at : (x : Char) → (tagOf the-type x ≡ 1) ⊎ (tagOf the-type x ≡ 2) → (x ≡ Bad) ⊎ (x ≡ End)
-not-at (At c n) h = absurd (⊎-elim (λ t. omega arith) (λ t. omega arith) h)
-not-at Bad h = inl refl
-not-at End h = inr refl
 
 -- ---- by the size alone: 0 where no character starts
 pub no-char : (s : List ℕ) (i : ℕ) → char-size (char (drop i s)) ≡ 0 → (char (drop i s) ≡ Bad) ⊎ (char (drop i s) ≡ End)

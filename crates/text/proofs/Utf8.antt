@@ -1,23 +1,20 @@
 -- The laws of `specs/Utf8.antt`.
 -- Assumes nothing.
-use Prim.Native.Nat.{ℕ, zero, suc, pred, _+_, _*_, _-_, _/_, _%_, _≤_, _<_}
-use mathlib.Core.Bool.{Bool, true, false, cond, _&&_, _||_}
-use mathlib.Core.List.{List, [], _∷_, _++_, append-assoc}
-use mathlib.Core.Option.{Option, none, some}
+use Prim.Native.Nat.{ℕ, suc, _+_, _*_, _-_, _/_, _%_, _≤_, _<_}
+use mathlib.Core.Bool.{Bool, true, _||_}
+use mathlib.Core.List.{List, [], _∷_, _++_}
 use mathlib.Core.Logic.{_⊎_, inl, inr, ⊎-elim, _≢_}
-use mathlib.Core.Path.{_≡_, refl, sym, ap, _∙_, subst}
-use borrow.Author.Tests.{leb-true, leb-false, ltb-true, ltb-false, lt-ltb, le-ltb, le-leb, lt-leb, eqb-true, eq-eqb, ne-eqb}
+use mathlib.Core.Path.{_≡_, refl, sym, ap, _∙_}
+use borrow.Author.Tests.{leb-true, leb-false, ltb-true, ltb-false, lt-ltb, le-ltb, le-leb, lt-leb}
 use native.Mathlib.Omega.{arith}
-use lib.Dec.{leb, ltb, eqb}
-use lib.ListN.{length, getD, take, drop, length-append, length-drop, drop-of-length-le}
+use lib.Dec.{leb, ltb}
+use lib.ListN.{length, getD, drop, drop-of-length-le}
 use lib.Seq.{drop-append-seam, drop-cons, getD-drop}
 use Rattle.text.specs.Chars.{within}
-use Rattle.text.specs.Words.{all}
-use Rattle.text.specs.Chars.{is-scalar}
-use Rattle.text.specs.Utf8.{IsScalar, Scalars, utf8, encode, tail, row, starts3, starts4, given, join, char-of, char, char-size, stray, next, scan, chars, is-utf8, decode}
+use Rattle.text.specs.Utf8.{IsScalar, utf8, tail, row, starts3, starts4, join, char-of, char, char-size, stray}
 use Rattle.text.specs.declared.Char.{Char}
 use Rattle.text.specs.declared.Char.the-variants.{At, Bad, End}
-use Rattle.text.proofs.Tests.{decide, on, or-elim, or-right, row-true, row-is, within-true, within-is, within-below, within-above}
+use Rattle.text.proofs.Tests.{decide, on, or-elim, or-right, row-true, row-is, within-true, within-is, within-above}
 
 -- ---- the bytes of a character, by its range
 pub utf8-1 : (c : ℕ) → c < 0x80 → utf8 c ≡ c ∷ []

@@ -1,10 +1,9 @@
 -- `text::is_ascii_block` meets its contract. The loop's invariant: whether the first k bytes of the block are ASCII.
 -- Assumes nothing.
-use Prim.Native.Nat.{_+_, _-_, _≤_, _<_}
+use Prim.Native.Nat.{_-_, _≤_, _<_}
 use native.Mathlib.Omega.{arith}
 use mathlib.Core.Path.{_≡_, refl, sym, _∙_}
-use mathlib.Core.Bool.{true}
-use lib.ListN.{length, getD, take, drop, length-drop}
+use lib.ListN.{length, take, drop, length-drop}
 use lib.Seq.{getD-drop}
 use Rattle.text.specs.Words.{all}
 use Rattle.text.specs.Chars.{is-ascii}

@@ -1,7 +1,7 @@
 -- `text::char_of` meets its contract.
 -- Assumes nothing.
 use native.Mathlib.Omega.{arith}
-use mathlib.Core.Path.{_≡_, sym, _∙_}
+use mathlib.Core.Path.{sym, _∙_}
 use borrow.Author.Needs.{needs}
 use Rattle.text.proofs.Utf8.{size-0}
 use Rattle.text.proofs.decoding.char_of.Statement.{statement}

@@ -1,7 +1,7 @@
 -- `text::code_at` meets its contract.
 -- Assumes nothing.
 use native.Mathlib.Omega.{arith}
-use mathlib.Core.Path.{_≡_, sym, _∙_}
+use mathlib.Core.Path.{sym, _∙_}
 use borrow.Author.Needs.{needs}
 use Rattle.text.proofs.Utf8.{char-past, char-drop}
 use Rattle.text.proofs.Laws.{code-is, code-end}

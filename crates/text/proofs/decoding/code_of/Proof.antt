@@ -2,7 +2,6 @@
 -- Assumes nothing.
 use native.Mathlib.Omega.{arith}
 use mathlib.Core.Path.{_∙_}
-use borrow.Author.Needs.{needs}
 use Rattle.text.proofs.Tests.{within-is}
 use Rattle.text.proofs.Utf8.{size-1, size-2, size-3, size-4}
 use Rattle.text.proofs.decoding.code_of.Statement.{statement}

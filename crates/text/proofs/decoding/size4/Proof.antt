@@ -1,7 +1,7 @@
 -- `text::size4` meets its contract.
 -- Assumes nothing.
 use native.Mathlib.Omega.{arith}
-use mathlib.Core.Path.{_≡_, sym, _∙_}
+use mathlib.Core.Path.{_∙_}
 use borrow.Author.Needs.{needs}
 use Rattle.text.proofs.Utf8.{char-drop}
 use Rattle.text.proofs.decoding.size4.Statement.{statement}

@@ -1,7 +1,7 @@
 -- `text::size_at` meets its contract.
 -- Assumes nothing.
 use native.Mathlib.Omega.{arith}
-use mathlib.Core.Path.{_≡_, sym, ap, _∙_}
+use mathlib.Core.Path.{sym, ap, _∙_}
 use Rattle.text.specs.Utf8.{size-of}
 use Rattle.text.proofs.Utf8.{char-past}
 use Rattle.text.proofs.Laws.{size-none, size-some}

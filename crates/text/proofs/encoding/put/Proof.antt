@@ -2,7 +2,7 @@
 -- Assumes nothing.
 use lib.Seq.{sets}
 use native.Mathlib.Omega.{arith}
-use mathlib.Core.Path.{_≡_, refl, sym, ap, _∙_}
+use mathlib.Core.Path.{sym, ap, _∙_}
 use Prim.Native.Nat.{_+_, _<_, _≤_}
 use lib.ListN.{length}
 use Rattle.text.specs.Utf8.{utf8}

@@ -1,7 +1,6 @@
 -- `text::width` meets its contract.
 -- Assumes nothing.
-use native.Mathlib.Omega.{arith}
-use mathlib.Core.Path.{_≡_, refl, sym, ap, _∙_}
+use mathlib.Core.Path.{sym, ap}
 use lib.ListN.{length}
 use Rattle.text.proofs.Utf8.{utf8-1, utf8-2, utf8-3, utf8-4, size-past}
 use Rattle.text.proofs.encoding.width.Statement.{statement}

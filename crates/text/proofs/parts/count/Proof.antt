@@ -1,7 +1,7 @@
 -- `text::count` meets its contract. The loop's invariant: the characters counted and those left are all.
 -- Assumes nothing.
 use native.Mathlib.Omega.{arith}
-use mathlib.Core.Path.{_≡_, refl, sym, ap, _∙_}
+use mathlib.Core.Path.{_≡_, ap}
 use Prim.Native.Nat.{_≤_, _+_, _-_}
 use lib.ListN.{length, drop}
 use Rattle.text.specs.Utf8.{chars}

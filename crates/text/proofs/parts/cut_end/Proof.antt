@@ -1,8 +1,7 @@
 -- `text::cut_end` meets its contract.
 -- Assumes nothing.
-use mathlib.Core.Path.{_≡_, sym, _∙_}
-use mathlib.Core.Bool.{true, false}
-use Rattle.text.specs.Cut.{splits, cut-end}
+use mathlib.Core.Path.{sym, _∙_}
+use Rattle.text.specs.Cut.{cut-end}
 use Rattle.text.proofs.CutLaws.{reach}
 use borrow.Author.Needs.{needs}
 use Rattle.text.proofs.parts.cut_end.Statement.{statement}

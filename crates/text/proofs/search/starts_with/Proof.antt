@@ -1,8 +1,8 @@
 -- `text::starts_with` meets its contract. The loop's invariant: the rest of p stands at i + j where p stands at i.
 -- Assumes nothing.
 use native.Mathlib.Omega.{arith}
-use mathlib.Core.Path.{_≡_, refl, sym, ap, _∙_}
-use Prim.Native.Nat.{ℕ, _+_, _≤_, _-_}
+use mathlib.Core.Path.{_≡_, sym, _∙_}
+use Prim.Native.Nat.{_+_, _≤_, _-_}
 use native.Mathlib.Nat.{add-zero}
 use lib.ListN.{length, drop, length-drop, drop-of-length-le}
 use Rattle.text.specs.Words.{starts-with}

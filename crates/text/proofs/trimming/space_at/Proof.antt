@@ -1,7 +1,7 @@
 -- `text::space_at` meets its contract.
 -- Assumes nothing.
 use native.Mathlib.Omega.{arith}
-use mathlib.Core.Path.{_≡_, _∙_}
+use mathlib.Core.Path.{_∙_}
 use borrow.Author.Needs.{needs}
 use Rattle.text.specs.Trim.{space-at}
 use Rattle.text.proofs.Utf8.{char-past, char-drop}

@@ -1,7 +1,7 @@
 -- `text::space_before` meets its contract: each answer is the case of `space-before` that the tests on the way say.
 -- Assumes nothing.
-use mathlib.Core.Path.{_≡_, refl, sym, ap, _∙_}
-use mathlib.Core.Bool.{true, false}
+use mathlib.Core.Path.{_≡_, sym, _∙_}
+use mathlib.Core.Bool.{false}
 use Prim.Native.Nat.{_-_}
 use lib.Dec.{ltb}
 use lib.ListN.{drop}

@@ -1,6 +1,6 @@
 -- `text::trim` meets its contract.
 -- Assumes nothing.
-use mathlib.Core.Path.{_≡_, refl, sym, ap, _∙_}
+use mathlib.Core.Path.{_∙_}
 use Rattle.text.proofs.TrimLaws.{chars-start}
 use borrow.Author.Needs.{needs}
 use Rattle.text.proofs.trimming.trim.Statement.{statement}
