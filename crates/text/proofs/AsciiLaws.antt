@@ -3,21 +3,23 @@
 use Prim.Native.Nat.{ℕ, zero, suc, _+_, _-_, _≤_, _<_}
 use mathlib.Core.Bool.{Bool, true, false, _&&_}
 use mathlib.Core.List.{List, [], _∷_, _++_, append-nil, append-assoc}
-use mathlib.Core.Logic.{_⊎_, inl, inr, ⊎-elim}
+use mathlib.Core.Logic.{_⊎_, ⊎-elim}
 use mathlib.Core.Path.{_≡_, refl, sym, ap, _∙_}
 use borrow.Author.Tests.{eq-eqb, ne-eqb, ltb-true, ltb-false, lt-ltb, le-ltb, le-leb}
 use native.Mathlib.Numerals.{add-one}
 use native.Mathlib.Omega.{arith}
 use lib.Dec.{ltb, eqb, eqb·suc-zero}
-use lib.ListN.{length, getD, take, drop, length-append, length-drop, drop-of-length-le}
-use lib.Seq.{drop-cons, drop-drop, take-suc, getD-take, take-at, length-take-le, sets}
-use Rattle.text.specs.Utf8.{IsScalar, Scalars, utf8, encode, chars, char, size-of}
+use lib.ListN.{length, getD, take, drop, length-append, length-drop, take-append-drop}
+use lib.Seq.{drop-cons, drop-drop, getD-take, take-at, take-append-le, drop-append-le, length-take-le, sets}
+use native.Mathlib.Nat.{add-zero}
+use Rattle.text.specs.Utf8.{utf8, encode, chars, char, size-of}
 use Rattle.text.specs.Words.{starts-with, all, take-while}
 use Rattle.text.specs.Chars.{is-ascii, is-scalar}
-use Rattle.text.proofs.Tests.{decide, on, and-true, and-false, and-assoc, and-true-right}
-use Rattle.text.proofs.Utf8.{utf8-1, char-1}
-use Rattle.text.proofs.Laws.{Next, next-is, Tails, Long, utf8-long, chars-nil, chars-at, encode-append, utf8-size}
+use Rattle.text.proofs.Tests.{decide, on, and-true, and-false}
+use Rattle.text.proofs.Utf8.{utf8-1, char-1, char-ascii}
+use Rattle.text.proofs.Laws.{Next, next-is, Pos, pos-next, chars-nil, chars-at, encode-append}
 use Rattle.text.proofs.PutLaws.{put-parts}
+use Rattle.text.proofs.RunLaws.{run-le, run-take, run-all, run-next}
 
 abbrev pub Ascii : List ℕ → Type 0
 Ascii [] = Unit
@@ -89,42 +91,13 @@ starts-nil [] = refl
 starts-nil (p ∷ ps) = sym (eqb·suc-zero (length ps))
 
 -- ---- a run of ASCII bytes
-pub all-append : (p : ℕ → Bool) (xs ys : List ℕ) → all p (xs ++ ys) ≡ all p xs && all p ys
-all-append p [] ys = refl
-all-append p (x ∷ xs) ys = ap (λ (t : Bool). p x && t) (all-append p xs ys) ∙ sym (and-assoc (p x) (all p xs) (all p ys))
+pub low-ascii : (x : ℕ) → x < 0x80 → is-ascii x ≡ true
+unfolding is-ascii
+low-ascii x h = lt-ltb x 0x80 h
 
--- one element more
-pub all-next : (p : ℕ → Bool) (xs : List ℕ) (k : ℕ) → k < length xs → all p (take (k + 1) xs) ≡ all p (take k xs) && p (getD xs k 0)
-all-next p xs k h =
-    rw (add-one k, take-suc xs k 0 h, all-append p (take k xs) (getD xs k 0 ∷ []), and-true-right (p (getD xs k 0)))
-
-pub run-next : (s : List ℕ) (j : ℕ) → j < length s → getD s j 0 < 0x80
-    → length (take-while is-ascii (drop j s)) ≡ suc (length (take-while is-ascii (drop (j + 1) s)))
-unfolding take-while is-ascii
-run-next s j l h = rw (drop-cons s j 0 l, lt-ltb (getD s j 0) 0x80 h, add-one j)
-
-pub run-stop : (s : List ℕ) (j : ℕ) → j < length s → 0x80 ≤ getD s j 0 → take-while is-ascii (drop j s) ≡ []
-unfolding take-while is-ascii
-run-stop s j l h = rw (drop-cons s j 0 l, le-ltb (getD s j 0) 0x80 h)
-
-pub run-past : (s : List ℕ) (j : ℕ) → length s ≤ j → take-while is-ascii (drop j s) ≡ []
-unfolding take-while
-run-past s j l = rw (drop-of-length-le s l)
-
-pub run-le : (s : List ℕ) → length (take-while is-ascii s) ≤ length s
-unfolding take-while
-run-le [] = omega arith
-run-le (x ∷ s) = on (λ (l : List ℕ). length l ≤ suc (length s)) (is-ascii x) (λ _. let h = run-le s in omega arith) (λ _. omega arith)
-
-pub run-block : (n : ℕ) (s : List ℕ) → n ≤ length s → all is-ascii (take n s) ≡ true
-    → length (take-while is-ascii s) ≡ n + length (take-while is-ascii (drop n s))
-unfolding take-while
-run-block zero s l h = omega arith
-run-block (suc n) [] l h = absurd (omega arith)
-run-block (suc n) (x ∷ s) l h =
-    let p = and-true (is-ascii x) (all is-ascii (take n s)) h in
-    let ih = run-block n s (omega arith) (p .1) in
-    rw (p .0) (omega arith)
+pub high-ascii : (x : ℕ) → 0x80 ≤ x → is-ascii x ≡ false
+unfolding is-ascii
+high-ascii x h = le-ltb x 0x80 h
 
 ascii-scalar : (x : ℕ) → x < 0x80 → is-scalar x ≡ true
 unfolding is-scalar
@@ -143,6 +116,49 @@ pub run-to : (s : List ℕ) (i j : ℕ) → i ≤ length s → j ≡ i + length 
     → (all is-scalar (chars (drop i s)) ≡ all is-scalar (chars (drop j s))) × (i ≤ j) × (j ≤ length s)
 run-to s i j l e =
     let n = length (take-while is-ascii (drop i s)) in
-    let h = run-le (drop i s) in
+    let h = run-le is-ascii (drop i s) in
     let d = length-drop i s in
     (run-scalar (drop i s) ∙ rw (drop-drop n i s, e), omega arith, omega arith)
+
+-- ---- from byte i, where character k stands, on over ASCII
+pos-ascii : (m : ℕ) (s : List ℕ) (i k : ℕ) → Pos s i k → i + m ≤ length s → all is-ascii (take m (drop i s)) ≡ true → Pos s (i + m) (k + m)
+unfolding is-ascii
+pos-ascii zero s i k p l h = rw (add-zero i, add-zero k) p
+pos-ascii (suc m) s i k p l h =
+    let b : i < length s = omega arith in
+    let e = and-true (ltb (getD s i 0) 0x80) (all is-ascii (take m (drop (suc i) s))) (rw (drop-cons s i 0 b) at h) in
+    let n : Next s i 1 = rw (char-ascii s i b (ltb-true (getD s i 0) 0x80 (e .0))) at (next-is s i b) in
+    let r = pos-ascii m s (i + 1) (k + 1) (pos-next s i k 1 p n) (omega arith) (rw (add-one i) (e .1)) in
+    let x : i + suc m ≡ i + 1 + m = omega arith in
+    let y : k + suc m ≡ k + 1 + m = omega arith in
+    rw (x, y) r
+
+-- the run that ends at e, in the first j bytes
+module _ (s : List ℕ) (i j k e : ℕ) (l : i ≤ j) (h : j ≤ length s) (r : e ≡ i + length (take-while is-ascii (drop i (take j s)))) where
+  bound : (i ≤ e) × (e ≤ j)
+  bound =
+      let a = run-le is-ascii (drop i (take j s)) in
+      let b = length-drop i (take j s) in
+      let d = length-take-le j s h in
+      omega arith
+
+  pub pos-run : Pos s i k → (Pos s e (k + (e - i)) × (i ≤ e)) × (e ≤ j)
+  pos-run p =
+      let x = drop i (take j s) in
+      let m = length (take-while is-ascii x) in
+      let d = length-take-le j s h in
+      let a : drop i s ≡ x ++ drop j s = ap (drop i) (sym (take-append-drop j s)) ∙ drop-append-le i (take j s) (drop j s) (omega arith) in
+      let q : all is-ascii (take m (drop i s)) ≡ true =
+      ap (λ (y : List ℕ). all is-ascii (take m y)) a
+      ∙ ap (all is-ascii) (take-append-le m x (drop j s) (run-le is-ascii x) ∙ run-take is-ascii x)
+      ∙ run-all is-ascii x
+      in
+      let b = bound in
+      let z : e - i ≡ m = omega arith in
+      ((rw (z, r) (pos-ascii m s i k p (omega arith) q), b .0), b .1)
+
+  pub run-moves : i < j → getD s i 0 < 0x80 → i < e
+  run-moves n low =
+      let d = length-take-le j s h in
+      let z = run-next is-ascii (take j s) i (omega arith) (rw (getD-take j s i 0 n) (low-ascii (getD s i 0) low)) in
+      omega arith

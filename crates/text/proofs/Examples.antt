@@ -1,14 +1,12 @@
 -- Closed examples of the definitions, by computation.
 -- Assumes nothing.
-use Prim.Native.Nat.{ℕ}
-use mathlib.Core.List.{List, [], _∷_}
-use mathlib.Core.Option.{Option, none, some}
+use mathlib.Core.List.{[], _∷_}
+use mathlib.Core.Option.{none, some}
 use mathlib.Core.Path.{_≡_, refl}
 use Rattle.text.specs.Chars.{is-space}
 use Rattle.text.specs.Words.{drop-while, trim-end-matches}
 use Rattle.text.specs.Trim.{trim}
-use Rattle.text.specs.Chars.{is-scalar}
-use Rattle.text.specs.Utf8.{utf8, encode, char-of, char, starts3, starts4, scan, chars, is-utf8, decode}
+use Rattle.text.specs.Utf8.{utf8, encode, char-of, char, starts3, starts4, scan, chars, decode}
 
 -- RFC 3629, section 7: A, not identical to, alpha, full stop
 pub first : decode (0x41 ∷ 0xE2 ∷ 0x89 ∷ 0xA2 ∷ 0xCE ∷ 0x91 ∷ 0x2E ∷ []) ≡ some (0x41 ∷ 0x2262 ∷ 0x0391 ∷ 0x2E ∷ [])

@@ -1,28 +1,25 @@
 -- The laws of a search for one element: an ASCII character is found in the bytes where it is found in the characters.
 -- Assumes nothing.
-use Prim.Native.Nat.{ℕ, zero, suc, _+_, _-_, _≤_, _<_}
-use mathlib.Core.Bool.{Bool, true, false, cond, _&&_}
-use mathlib.Core.Option.{Option, none, some}
+use Prim.Native.Nat.{ℕ, suc, _+_, _-_, _≤_, _<_}
+use mathlib.Core.Bool.{Bool, true, false, cond, not, _&&_}
+use mathlib.Core.Option.{none, some}
 use mathlib.Core.List.{List, [], _∷_, _++_, append-cancel-left}
-use mathlib.Core.Logic.{_⊎_, inl, inr, ⊎-elim}
+use mathlib.Core.Logic.{_⊎_, ⊎-elim}
 use mathlib.Core.Path.{_≡_, refl, sym, ap, _∙_}
 use borrow.Author.Tests.{eqb-true, eqb-false, eq-eqb, ne-eqb, ltb-true, ltb-false, lt-ltb, le-ltb}
-use native.Mathlib.Numerals.{add-one}
 use native.Mathlib.Omega.{arith}
 use lib.Dec.{ltb, eqb, leb·suc-suc}
 use lib.ListN.{length, getD, take, drop, drop-of-length-le, length-drop}
-use lib.Seq.{drop-cons, drop-drop, drop-append-seam, take-append-seam}
+use lib.Seq.{drop-drop, drop-append-seam, take-append-seam}
 use Rattle.text.specs.Utf8.{IsScalar, utf8, tail, char, stray, chars}
-use Rattle.text.specs.Words.{if_then_else_, _>>=_, index}
+use Rattle.text.specs.Words.{if_then_else_, _>>=_, index, take-while}
+use Rattle.text.specs.Run.{RunTo, other}
 use Rattle.text.specs.Find.{found}
-use Rattle.text.specs.declared.Found.{Found}
 use Rattle.text.specs.declared.Found.the-variants.{Here, Nowhere}
-use denote.Enum.Declared.{tagOf}
-use Rattle.text.proofs.Found.{the-type}
-use Rattle.text.specs.declared.Char.{Char}
-use Rattle.text.specs.declared.Char.the-variants.{At, Bad, End}
+use Rattle.text.specs.declared.Char.the-variants.{Bad}
 use Rattle.text.proofs.Tests.{decide, on, within-below}
 use Rattle.text.proofs.Utf8.{utf8-1, char-1}
+use Rattle.text.proofs.RunLaws.{at-stop, at-end}
 use Rattle.text.proofs.Laws.{by-chars, chars-nil, chars-utf8, chars-bad, chars-append, char-cut, Tails, Long, utf8-long}
 
 -- what stands before the first b, and what stands from it on
@@ -106,16 +103,6 @@ module _ (b : ℕ) (low : b < 0x80) where
       ∙ ap chars (until-since b bs)
       ∙ sym (until-since b (chars bs)))
 
--- one more byte that is not b
-pub until-next : (b : ℕ) (s : List ℕ) (j : ℕ) → j < length s → (getD s j 0 ≡ b → ⊥) → length (until b (drop j s)) ≡ suc (length (until b (drop (j + 1) s)))
-until-next b s j l n = rw (drop-cons s j 0 l, ne-eqb (getD s j 0) b n, add-one j)
-
-pub until-here : (b : ℕ) (s : List ℕ) (j : ℕ) → j < length s → getD s j 0 ≡ b → until b (drop j s) ≡ []
-until-here b s j l e = rw (drop-cons s j 0 l, eq-eqb (getD s j 0) b e)
-
-pub until-past : (b : ℕ) (s : List ℕ) (j : ℕ) → length s ≤ j → until b (drop j s) ≡ []
-until-past b s j l = rw (drop-of-length-le s l)
-
 -- ---- what a search for one element answers
 since-drop : (b : ℕ) (s : List ℕ) (i : ℕ) → drop (i + length (until b (drop i s))) s ≡ since b (drop i s)
 since-drop b s i =
@@ -146,6 +133,31 @@ found-is s i b j e l =
 pub nowhere-is : (s : List ℕ) (i b : ℕ) → length s ≤ i + length (until b (drop i s)) → found i (index (b ∷ []) (drop i s)) ≡ Nowhere
 nowhere-is s i b l =
     rw (index-until b (drop i s), le-ltb (length (until b (drop i s))) (length (drop i s)) (rw (length-drop i s) (omega arith)))
+
+-- a run of other bytes, and then b or the end
+until-run : (b : ℕ) (s : List ℕ) → until b s ≡ take-while (other b) s
+unfolding take-while other
+until-run b [] = refl
+until-run b (x ∷ s) = by (eqb x b) (until-run b s)
+  where
+    by : (t : Bool) → until b s ≡ take-while (other b) s → cond t [] (x ∷ until b s) ≡ cond (not t) (x ∷ take-while (other b) s) []
+    by true h = refl
+    by false h = ap (λ (l : List ℕ). x ∷ l) h
+
+pub other-is : (b x : ℕ) → (x ≡ b → ⊥) → other b x ≡ true
+unfolding other
+other-is b x n = rw (ne-eqb x b n)
+
+not-other : (b x : ℕ) → x ≡ b → other b x ≡ false
+unfolding other
+not-other b x e = rw (eq-eqb x b e)
+
+module _ (s : List ℕ) (i b j : ℕ) (h : RunTo (other b) s i j) where
+  pub run-found : j < length s → getD s j 0 ≡ b → found i (index (b ∷ []) (drop i s)) ≡ Here j
+  run-found l e = found-is s i b j (rw (until-run b (drop i s)) (at-stop (other b) s i j h l (not-other b (getD s j 0) e))) l
+
+  pub run-nowhere : length s ≤ j → found i (index (b ∷ []) (drop i s)) ≡ Nowhere
+  run-nowhere l = nowhere-is s i b (rw (until-run b (drop i s)) (let e = at-end (other b) s i j h l in omega arith))
 
 here-if : (i : ℕ) (t : Bool) (k j : ℕ) → found i (if t then some k else none) ≡ Here j → (t ≡ true) × (i + k ≡ j)
 here-if i true k j e = (refl, cc)
@@ -182,8 +194,3 @@ found-nowhere s i b e =
     let u = length (until b (drop i s)) in
     let f = ltb-false u (length (drop i s)) (nowhere-if i (ltb u (length (drop i s))) u (rw (index-until b (drop i s)) at e)) in
     sym (since-drop b s i) ∙ drop-of-length-le s {i = i + u} (omega (arith, f, length-drop i s))
-
--- the other arm of a `let .. else` on what `find` answers
-pub not-here : (x : Found) → tagOf the-type x ≡ 1 → x ≡ Nowhere
-not-here (Here j) h = absurd (omega arith)
-not-here Nowhere h = refl

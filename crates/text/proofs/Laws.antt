@@ -1,27 +1,25 @@
 -- The laws of `chars`, `encode` and `decode`.
 -- Assumes nothing.
-use Prim.Native.Nat.{ℕ, zero, suc, pred, _+_, _-_, _/_, _%_, _≤_, _<_}
-use mathlib.Core.Bool.{Bool, true, false, cond, _&&_, _||_}
+use Prim.Native.Nat.{ℕ, zero, suc, _+_, _≤_, _<_}
+use mathlib.Core.Bool.{Bool, true, false, cond}
 use mathlib.Core.List.{List, [], _∷_, _++_, append-assoc, append-nil}
-use mathlib.Core.Option.{Option, none, some}
+use mathlib.Core.Option.{none, some}
 use mathlib.Core.Logic.{_⊎_, inl, inr, ⊎-elim, _↔_}
 use mathlib.Core.Path.{_≡_, refl, sym, ap, _∙_, subst}
 use borrow.Author.Tests.{leb-true, le-leb, lt-leb, ltb-true, ltb-false}
 use native.Mathlib.Numerals.{add-one}
 use native.Mathlib.Omega.{arith}
 use lib.Dec.{leb, ltb}
-use denote.Enum.Declared.{tagOf}
-use Rattle.text.proofs.Char.{the-type}
-use lib.ListN.{length, getD, take, drop, length-append, length-drop, take-append-drop, drop-of-length-le}
-use lib.Seq.{drop-append-seam, drop-nil, drop-drop, take-add, take-append-seam, take-at, take-suc, drop-cons}
+use lib.ListN.{length, getD, take, drop, length-append, length-drop, drop-of-length-le}
+use lib.Seq.{drop-append-seam, drop-drop, take-add, take-at, take-suc, drop-cons}
 use Rattle.text.specs.Chars.{within}
 use Rattle.text.specs.Words.{all}
 use Rattle.text.specs.Chars.{is-scalar}
-use Rattle.text.specs.Utf8.{size, IsScalar, Scalars, utf8, encode, tail, char-of, char, size-of, stray, next, scan, chars, code-at, is-utf8, decode}
+use Rattle.text.specs.Utf8.{size, IsScalar, Scalars, utf8, encode, tail, char-of, char, size-of, char-size, char-code, stray, scan, chars, code-at, is-utf8, decode}
 use Rattle.text.specs.declared.Char.{Char}
 use Rattle.text.specs.declared.Char.the-variants.{At, Bad, End}
 use Rattle.text.proofs.Tests.{decide, on, and-true, or-elim, or-right, within-true, within-is, within-below, within-above}
-use Rattle.text.proofs.Utf8.{utf8-1, utf8-2, utf8-3, utf8-4, utf8-stray, ranges, top, Decoded, sound, char-at, char-1, char-utf8}
+use Rattle.text.proofs.Utf8.{utf8-1, utf8-2, utf8-3, utf8-4, utf8-stray, ranges, top, sound, char-at, char-1, char-utf8}
 
 -- ---- scalar values, as a test and as a fact
 pub scalar-true : (c : ℕ) → is-scalar c ≡ true → IsScalar c
@@ -227,11 +225,6 @@ tails-at [] h k l = absurd (omega arith)
 tails-at (b ∷ bs) h zero l = h .0
 tails-at (b ∷ bs) h (suc k) l = tails-at bs (h .1) k (omega arith)
 
-long-high : (bs : List ℕ) → Long bs → (k : ℕ) → k < length bs → 0x80 ≤ getD bs k 0
-long-high [] h k l = absurd h
-long-high (a ∷ bs) h zero l = omega arith
-long-high (a ∷ bs) h (suc k) l = tails-at bs (h .1) k (omega arith) .0
-
 long-tail : (bs : List ℕ) → Long bs → (k : ℕ) → suc k < length bs → (0x80 ≤ getD bs (suc k) 0) × (getD bs (suc k) 0 ≤ 0xBF)
 long-tail [] h k l = absurd h
 long-tail (a ∷ bs) h k l = tails-at bs (h .1) k (omega arith)
@@ -239,10 +232,6 @@ long-tail (a ∷ bs) h k l = tails-at bs (h .1) k (omega arith)
 long-lead : (bs : List ℕ) → Long bs → tail (getD bs 0 0) ≡ false
 long-lead [] h = absurd h
 long-lead (a ∷ bs) h = within-above 0x80 0xBF a (omega arith) (omega arith)
-
--- every byte of a character that is not ASCII is at least 128
-pub utf8-high : (c : ℕ) → IsScalar c → 0x80 ≤ c → (k : ℕ) → k < length (utf8 c) → 0x80 ≤ getD (utf8 c) k 0
-utf8-high c s m = long-high (utf8 c) (utf8-long c s m)
 
 -- every byte after the first is 128 to 191
 pub utf8-tail : (c : ℕ) → IsScalar c → (k : ℕ) → suc k < length (utf8 c) → (0x80 ≤ getD (utf8 c) (suc k) 0) × (getD (utf8 c) (suc k) 0 ≤ 0xBF)
@@ -315,11 +304,36 @@ advance-bad s i e =
 pub advance-end : (s : List ℕ) (i : ℕ) → length s ≤ i → chars (drop i s) ≡ []
 advance-end s i h = rw (drop-of-length-le s h) chars-nil
 
--- ---- the other arm of a `let .. else` or an `if let` on what `read` answers
-pub not-at : (x : Char) → (tagOf the-type x ≡ 1) ⊎ (tagOf the-type x ≡ 2) → (x ≡ Bad) ⊎ (x ≡ End)
-not-at (At c n) h = absurd (⊎-elim (λ t. omega arith) (λ t. omega arith) h)
-not-at Bad h = inl refl
-not-at End h = inr refl
+-- ---- by the size alone: 0 where no character starts
+pub no-char : (s : List ℕ) (i : ℕ) → char-size (char (drop i s)) ≡ 0 → (char (drop i s) ≡ Bad) ⊎ (char (drop i s) ≡ End)
+no-char s i e = by (char (drop i s)) refl e
+  where
+    by : (x : Char) → char (drop i s) ≡ x → char-size x ≡ 0 → (x ≡ Bad) ⊎ (x ≡ End)
+    by (At c n) h z = let k = advance s i c n h in absurd (omega arith)
+    by Bad h z = inl refl
+    by End h z = inr refl
+
+pub some-char : (s : List ℕ) (i n : ℕ) → n ≡ char-size (char (drop i s)) → (n ≡ 0 → ⊥) → (c : ℕ) × Step s i c n
+some-char s i n e z = by (char (drop i s)) refl e
+  where
+    by : (x : Char) → char (drop i s) ≡ x → n ≡ char-size x → (c : ℕ) × Step s i c n
+    by (At c m) h q = (c, rw q (advance s i c m h))
+    by Bad h q = absurd (z q)
+    by End h q = absurd (z q)
+
+pub size-none : (s : List ℕ) (i : ℕ) → i < length s → char-size (char (drop i s)) ≡ 0 → size-of (char (drop i s)) ≡ 1
+size-none s i l e =
+    ⊎-elim (λ h. ap size-of h)
+    (λ h. let d = rw h at (sound (drop i s)) in absurd (omega (arith, ap length d, length-drop i s)))
+    (no-char s i e)
+
+pub size-some : (s : List ℕ) (i : ℕ) → (char-size (char (drop i s)) ≡ 0 → ⊥) → char-size (char (drop i s)) ≡ size-of (char (drop i s))
+size-some s i z = by (char (drop i s)) z
+  where
+    by : (x : Char) → (char-size x ≡ 0 → ⊥) → char-size x ≡ size-of x
+    by (At c n) z = refl
+    by Bad z = absurd (z refl)
+    by End z = absurd (z refl)
 
 -- bytes that are left, and start no character, are not UTF-8
 pub stuck : (s : List ℕ) (i : ℕ) → i < length s → (char (drop i s) ≡ Bad) ⊎ (char (drop i s) ≡ End) → all is-scalar (chars (drop i s)) ≡ false
@@ -396,6 +410,14 @@ code-bad s i e = code-first s i (stray (getD s i 0)) (chars (drop (i + 1) s)) (a
 pub code-end : (s : List ℕ) (i : ℕ) → char (drop i s) ≡ End → code-at s i ≡ 0
 unfolding code-at
 code-end s i e = let d = rw e at (sound (drop i s)) in rw (d, chars-nil)
+
+pub code-is : (s : List ℕ) (i : ℕ) → i < length s → code-at s i ≡ char-code (char (drop i s)) (getD s i 0)
+code-is s i l = by (char (drop i s)) refl
+  where
+    by : (x : Char) → char (drop i s) ≡ x → code-at s i ≡ char-code x (getD s i 0)
+    by (At c n) e = code-char s i c n e
+    by Bad e = code-bad s i e
+    by End e = let d = rw e at (sound (drop i s)) in absurd (omega (arith, ap length d, length-drop i s))
 
 pub record Turn (s : List ℕ) (i c : ℕ) : Type 0 where
   pub low : 1 ≤ length (utf8 c)

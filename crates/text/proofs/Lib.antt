@@ -1,6 +1,7 @@
 pub mod Tests
 pub mod Utf8
 pub mod Laws
+pub mod RunLaws
 pub mod TrimLaws
 pub mod FindLaws
 pub mod PutLaws

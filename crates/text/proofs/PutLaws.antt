@@ -1,14 +1,14 @@
 -- The laws of `specs/Put.antt`.
 -- Assumes nothing.
 use Prim.Native.Nat.{ℕ, _+_, _≤_, _<_}
-use mathlib.Core.Bool.{true, false}
-use mathlib.Core.List.{List, [], _∷_, _++_, append-assoc}
-use mathlib.Core.Path.{_≡_, refl, sym, ap, _∙_}
+use mathlib.Core.Bool.{false}
+use mathlib.Core.List.{List, _++_, append-assoc}
+use mathlib.Core.Path.{_≡_, _∙_}
 use borrow.Author.Tests.{lt-ltb, le-ltb, le-leb, lt-leb}
 use native.Mathlib.Omega.{arith}
 use lib.Dec.{ltb, leb}
-use lib.ListN.{length, take, drop, length-append}
-use lib.Seq.{sets, sets-eq, take-at, drop-at, length-take-le}
+use lib.ListN.{length, take, drop}
+use lib.Seq.{sets, sets-eq}
 use Rattle.text.proofs.Tests.{and-false}
 use Rattle.text.specs.Utf8.{utf8}
 use Rattle.text.specs.Put.{room-for, put-size, put-at}

@@ -1,24 +1,24 @@
 -- The laws of `specs/Trim.antt`.
 -- Assumes nothing.
 use Prim.Native.Nat.{ℕ, zero, suc, _+_, _-_, _≤_, _<_}
-use mathlib.Core.Bool.{Bool, true, false, cond, _&&_, _||_, true≢false}
+use mathlib.Core.Bool.{Bool, true, false, cond, _||_, true≢false}
 use mathlib.Core.List.{List, [], _∷_, _++_, append-assoc, append-nil, reverse, reverse-cons, reverse-append, reverse-reverse}
 use mathlib.Core.Logic.{_⊎_, inl, inr, ⊎-elim}
-use mathlib.Core.Path.{_≡_, refl, sym, ap, _∙_, subst}
-use borrow.Author.Tests.{ltb-true, ltb-false, leb-true, leb-false, eqb-true, eq-eqb, ne-eqb, lt-ltb, le-ltb}
+use mathlib.Core.Path.{_≡_, refl, sym, ap, _∙_}
+use borrow.Author.Tests.{ltb-true, ltb-false, leb-true, leb-false, eqb-true, eq-eqb, ne-eqb}
 use native.Mathlib.Omega.{arith}
 use lib.Dec.{leb, ltb, eqb}
-use lib.ListN.{length, getD, take, drop, length-append, length-drop, length-take, take-append-drop}
-use lib.Seq.{drop-append-seam, length-take-le, drop-at, take-append-seam}
+use lib.ListN.{length, getD, take, drop, length-append, length-drop, take-append-drop}
+use lib.Seq.{length-take-le, drop-at, take-append-seam}
 use Rattle.text.specs.Words.{drop-while, trim-end-matches}
 use Rattle.text.specs.Chars.{within, is-space}
-use Rattle.text.specs.Utf8.{IsScalar, utf8, encode, tail, char, stray, chars}
-use Rattle.text.specs.Trim.{trim-start, trim-end, trim, start-of, end-of, is-space-of, space-at, space-before}
+use Rattle.text.specs.Utf8.{IsScalar, utf8, encode, char, stray, chars}
+use Rattle.text.specs.Trim.{trim-start, trim-end, start-of, end-of, is-space-of, space-at, space-before}
 use Rattle.text.specs.declared.Char.{Char}
 use Rattle.text.specs.declared.Char.the-variants.{At, Bad, End}
-use Rattle.text.proofs.Tests.{decide, on, and-true, within-above}
-use Rattle.text.proofs.Utf8.{utf8-1, utf8-2, utf8-3, utf8-stray, ranges, sound, char-utf8}
-use Rattle.text.proofs.Laws.{Step, advance, advance-bad, advance-end, by-chars, encode-chars, encode-append, chars-nil, chars-utf8, chars-bad, chars-encode, chars-append, utf8-lead, utf8-size}
+use Rattle.text.proofs.Tests.{decide, on, and-true, or-false, within-below, within-above}
+use Rattle.text.proofs.Utf8.{utf8-1, utf8-2, utf8-3, utf8-stray, ranges, char-utf8, char-ascii}
+use Rattle.text.proofs.Laws.{advance, by-chars, encode-chars, encode-append, chars-nil, chars-utf8, chars-bad, chars-append, utf8-lead, utf8-size}
 
 -- ---- spaces
 pub space-top : (c : ℕ) → 12288 < c → is-space c ≡ false
@@ -46,6 +46,29 @@ space-low c e =
     let z : true ≡ false = cc in
     let y : _≡_ {A = ℕ} 0 1 = cc in absurd (omega arith))
     (decide (leb c 12288))
+
+-- by one test first: an ASCII character, or another
+pub space-ascii : (c : ℕ) → c < 0x80 → is-space c ≡ (within 9 13 c || eqb c 32)
+unfolding is-space
+space-ascii c h =
+    simp (
+      ne-eqb c 133 (omega arith),
+      ne-eqb c 160 (omega arith),
+      ne-eqb c 5760 (omega arith),
+      within-below 8192 8202 c (omega arith),
+      ne-eqb c 8232 (omega arith),
+      ne-eqb c 8233 (omega arith),
+      ne-eqb c 8239 (omega arith),
+      ne-eqb c 8287 (omega arith),
+      ne-eqb c 12288 (omega arith),
+      or-false,
+    )
+
+pub space-high : (c : ℕ) → 0x80 ≤ c
+    → is-space c
+    ≡ (eqb c 133 || eqb c 160 || eqb c 5760 || within 8192 8202 c || eqb c 8232 || eqb c 8233 || eqb c 8239 || eqb c 8287 || eqb c 12288)
+unfolding is-space
+space-high c h = rw (within-above 9 13 c (omega arith) (omega arith), ne-eqb c 32 (omega arith))
 
 -- a space has at most three bytes
 pub space-size : (c : ℕ) → c ≤ 12288 → length (utf8 c) ≤ 3
@@ -130,6 +153,21 @@ back-is s e c cs l h q =
       ap char (ap (drop (e - length (utf8 c))) (sym r) ∙ drop-at (encode cs) (utf8 c ++ drop e s) (e - length (utf8 c)) (omega arith))
           ∙ char-utf8 c (drop e s) h,
     )
+
+-- an ASCII byte before byte e
+module _ (s : List ℕ) (e : ℕ) (l : 1 ≤ e) (h : e ≤ length s) (low : getD s (e - 1) 0 < 0x80) where
+  back-ascii : chars (take e s) ≡ chars (take (e - 1) s) ++ (getD s (e - 1) 0 ∷ [])
+  back-ascii = back s e (getD s (e - 1) 0) 1 l (char-ascii s (e - 1) (omega arith) low)
+
+  pub end-low-space : is-space (getD s (e - 1) 0) ≡ true → trim-end (chars (take e s)) ≡ trim-end (chars (take (e - 1) s))
+  end-low-space q = ap trim-end back-ascii ∙ end-snoc (chars (take (e - 1) s)) (getD s (e - 1) 0) ∙ rw q
+
+  pub end-low-other : is-space (getD s (e - 1) 0) ≡ false → trim-end (chars (take e s)) ≡ chars (take e s)
+  end-low-other q = rw back-ascii (end-snoc (chars (take (e - 1) s)) (getD s (e - 1) 0) ∙ rw q)
+
+pub end-nil : (s : List ℕ) (e : ℕ) → e ≤ 0 → trim-end (chars (take e s)) ≡ chars (take e s)
+unfolding trim-end-matches drop-while
+end-nil s e h = let q : e ≡ 0 = omega arith in rw (q, chars-nil)
 
 -- ---- the space before an offset
 space-of : (x : Char) (k : ℕ) → is-space-of x k ≡ true → (c : ℕ) × (is-space c ≡ true) × (x ≡ At c k)
@@ -245,9 +283,3 @@ end-le s = let p = end-split s in omega (arith, simp length-append at (ap length
 pub take-end : (s : List ℕ) → take (end-of s) s ≡ encode (trim-end (chars s))
 unfolding end-of
 take-end s = let p = end-split s in ap (take (end-of s)) (sym (p .1)) ∙ take-append-seam (encode (trim-end (chars s))) (p .0)
-
--- where no character starts, nothing goes
-pub start-stuck : (s : List ℕ) (i : ℕ) → (char (drop i s) ≡ Bad) ⊎ (char (drop i s) ≡ End) → trim-start (chars (drop i s)) ≡ chars (drop i s)
-unfolding drop-while
-start-stuck s i (inl e) = rw (advance-bad s i e .1, space-top (stray (getD s i 0)) (omega arith))
-start-stuck s i (inr e) = let d = rw e at (sound (drop i s)) in rw (d, chars-nil)

@@ -1,23 +1,20 @@
 -- The laws of `specs/Utf8.antt`.
 -- Assumes nothing.
-use Prim.Native.Nat.{ℕ, zero, suc, pred, _+_, _*_, _-_, _/_, _%_, _≤_, _<_}
-use mathlib.Core.Bool.{Bool, true, false, cond, _&&_, _||_}
-use mathlib.Core.List.{List, [], _∷_, _++_, append-assoc}
-use mathlib.Core.Option.{Option, none, some}
+use Prim.Native.Nat.{ℕ, suc, _+_, _*_, _-_, _/_, _%_, _≤_, _<_}
+use mathlib.Core.Bool.{Bool, true, _||_}
+use mathlib.Core.List.{List, [], _∷_, _++_}
 use mathlib.Core.Logic.{_⊎_, inl, inr, ⊎-elim, _≢_}
-use mathlib.Core.Path.{_≡_, refl, sym, ap, _∙_, subst}
-use borrow.Author.Tests.{leb-true, leb-false, ltb-true, ltb-false, lt-ltb, le-ltb, le-leb, lt-leb, eqb-true, eq-eqb, ne-eqb}
+use mathlib.Core.Path.{_≡_, refl, sym, ap, _∙_}
+use borrow.Author.Tests.{leb-true, leb-false, ltb-true, ltb-false, lt-ltb, le-ltb, le-leb, lt-leb}
 use native.Mathlib.Omega.{arith}
-use lib.Dec.{leb, ltb, eqb}
-use lib.ListN.{length, getD, take, drop, length-append, length-drop, drop-of-length-le}
+use lib.Dec.{leb, ltb}
+use lib.ListN.{length, getD, drop, drop-of-length-le}
 use lib.Seq.{drop-append-seam, drop-cons, getD-drop}
 use Rattle.text.specs.Chars.{within}
-use Rattle.text.specs.Words.{all}
-use Rattle.text.specs.Chars.{is-scalar}
-use Rattle.text.specs.Utf8.{IsScalar, Scalars, utf8, encode, tail, row, starts3, starts4, given, join, char-of, char, stray, next, scan, chars, is-utf8, decode}
+use Rattle.text.specs.Utf8.{IsScalar, utf8, tail, row, starts3, starts4, join, char-of, char, char-size, stray}
 use Rattle.text.specs.declared.Char.{Char}
 use Rattle.text.specs.declared.Char.the-variants.{At, Bad, End}
-use Rattle.text.proofs.Tests.{decide, on, or-elim, or-right, row-true, row-is, within-true, within-is, within-below, within-above}
+use Rattle.text.proofs.Tests.{decide, on, or-elim, or-right, row-true, row-is, within-true, within-is, within-above}
 
 -- ---- the bytes of a character, by its range
 pub utf8-1 : (c : ℕ) → c < 0x80 → utf8 c ≡ c ∷ []
@@ -144,6 +141,57 @@ by-rows P a b c d one p2 p3 p4 bad =
     (λ _. bad)))
     (λ _. bad)))
     (λ _. bad))
+
+-- what the size tells
+pub size-0 : (a b c d : ℕ) → char-size (char-of a b c d) ≡ 0 → char-of a b c d ≡ Bad
+size-0 a b c d =
+    by-rows (λ (x : Char). char-size x ≡ 0 → x ≡ Bad) a b c d
+    (λ _ q. absurd (omega arith))
+    (λ _ q. absurd (omega arith))
+    (λ _ q. absurd (omega arith))
+    (λ _ q. absurd (omega arith))
+    (λ q. refl)
+
+module _ (a b c d n : ℕ) (e : n ≡ char-size (char-of a b c d)) where
+  pub size-1 : n ≡ 1 → char-of a b c d ≡ At a n
+  size-1 h =
+      by-rows (λ (x : Char). n ≡ char-size x → x ≡ At a n) a b c d
+      (λ _ q. ap (At a) (sym q))
+      (λ _ q. absurd (omega arith))
+      (λ _ q. absurd (omega arith))
+      (λ _ q. absurd (omega arith))
+      (λ q. absurd (omega arith))
+      e
+
+  pub size-2 : n ≡ 2 → Two a b × (char-of a b c d ≡ At (value2 a b) n)
+  size-2 h =
+      by-rows (λ (x : Char). n ≡ char-size x → Two a b × (x ≡ At (value2 a b) n)) a b c d
+      (λ _ q. absurd (omega arith))
+      (λ r q. (r, ap (At (value2 a b)) (sym q)))
+      (λ _ q. absurd (omega arith))
+      (λ _ q. absurd (omega arith))
+      (λ q. absurd (omega arith))
+      e
+
+  pub size-3 : n ≡ 3 → Three a b c × (char-of a b c d ≡ At (value3 a b c) n)
+  size-3 h =
+      by-rows (λ (x : Char). n ≡ char-size x → Three a b c × (x ≡ At (value3 a b c) n)) a b c d
+      (λ _ q. absurd (omega arith))
+      (λ _ q. absurd (omega arith))
+      (λ r q. (r, ap (At (value3 a b c)) (sym q)))
+      (λ _ q. absurd (omega arith))
+      (λ q. absurd (omega arith))
+      e
+
+  pub size-4 : 0 < n → n ≢ 1 → n ≢ 2 → n ≢ 3 → Four a b c d × (char-of a b c d ≡ At (value4 a b c d) n)
+  size-4 l n1 n2 n3 =
+      by-rows (λ (x : Char). n ≡ char-size x → Four a b c d × (x ≡ At (value4 a b c d) n)) a b c d
+      (λ _ q. absurd (n1 q))
+      (λ _ q. absurd (n2 q))
+      (λ _ q. absurd (n3 q))
+      (λ r q. (r, ap (At (value4 a b c d)) (sym q)))
+      (λ q. absurd (omega arith))
+      e
 
 -- ---- reading: what `char` finds stands at the start of the bytes
 pub record Decoded (bs : List ℕ) (c n : ℕ) : Type 0 where

@@ -7,4 +7,4 @@ pub mod Put
 pub mod Cut
 pub mod Decimal
 pub mod Outcome
-pub mod Ascii
+pub mod Run

@@ -87,11 +87,23 @@ size-of (At c n) = n
 size-of Bad = 1
 size-of End = 0
 
+-- the same, but 0 for a byte that starts none
+abbrev pub char-size : Char → ℕ
+char-size (At c n) = n
+char-size Bad = 0
+char-size End = 0
+
 -- the code of a byte that belongs to no character
 abbrev pub stray : ℕ → ℕ
 stray b = 0x110000 + b
 
--- the code for the byte b that `char` found this at, and those of what f gives for the count of bytes to pass over
+-- the code for the byte b that `char` found this at
+abbrev pub char-code : Char → ℕ → ℕ
+char-code (At c n) b = c
+char-code Bad b = stray b
+char-code End b = 0
+
+-- that code, and those of what f gives for the count of bytes to pass over
 abbrev pub next : Char → ℕ → (ℕ → List ℕ) → List ℕ
 next (At c n) b f = c ∷ f (pred n)
 next Bad b f = stray b ∷ f 0

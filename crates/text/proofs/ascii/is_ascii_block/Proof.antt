@@ -1,0 +1,59 @@
+-- `text::is_ascii_block` meets its contract. The loop's invariant: whether the first k bytes of the block are ASCII.
+-- Assumes nothing.
+use Prim.Native.Nat.{_-_, _≤_, _<_}
+use native.Mathlib.Omega.{arith}
+use mathlib.Core.Path.{_≡_, refl, sym, _∙_}
+use lib.ListN.{length, take, drop, length-drop}
+use lib.Seq.{getD-drop}
+use Rattle.text.specs.Words.{all}
+use Rattle.text.specs.Chars.{is-ascii}
+use Rattle.text.proofs.RunLaws.{all-next}
+use Rattle.text.proofs.ascii.is_ascii_block.Statement.{statement}
+use Rattle.text.proofs.ascii.is_ascii_block.Tie as tie
+
+abbrev Inv-loop : tie.InvT-loop
+Inv-loop s i ascii₀ k₀ ascii k = (ascii ≡ all is-ascii (take k (drop i s))) × (k ≤ 64)
+
+abbrev μ-loop : tie.MeasureT-loop
+μ-loop s i ascii₀ k₀ ascii k = 64 - k
+
+loop-holds : tie.Need-loop-holds Inv-loop μ-loop
+loop-holds c = (refl, omega arith)
+
+add-ascii : tie.Need-add-ascii Inv-loop μ-loop
+add-ascii c = omega arith
+
+shared-slice-read-ascii : tie.Need-shared-slice-read-ascii Inv-loop μ-loop
+shared-slice-read-ascii c = omega arith
+
+add-k : tie.Need-add-k Inv-loop μ-loop
+add-k c = omega arith
+
+loop-less : tie.Need-loop-less Inv-loop μ-loop
+loop-less c = omega arith
+
+loop-again : tie.Need-loop-again Inv-loop μ-loop
+unfolding is-ascii
+loop-again c =
+    let s = c .before .before .before .args .s .now in
+    let i = c .before .before .before .args .i in
+    let k = c .before .before .loop .k in
+    let h : k < length (drop i s) = omega (arith, length-drop i s) in
+    (rw (c .before .before .loop .inv .0, ← getD-drop i s k 0) (sym (all-next is-ascii (drop i s) k h)), omega arith)
+
+returns : tie.Need-returns Inv-loop μ-loop
+returns c = let q : c .before .loop .k ≡ 64 = omega arith in c .before .loop .inv .0 ∙ rw q
+
+pub is-ascii-block-spec : {M : Type 1} → statement M
+is-ascii-block-spec =
+    tie.close
+    (tie.spec
+    Inv-loop
+    μ-loop
+    loop-holds
+    add-ascii
+    shared-slice-read-ascii
+    add-k
+    loop-less
+    loop-again
+    returns)

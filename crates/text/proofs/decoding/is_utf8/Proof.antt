@@ -1,0 +1,113 @@
+-- `text::is_utf8` meets its contract. The loop's invariant: whether the whole is UTF-8 is whether what is left is.
+-- Assumes nothing.
+use Prim.Native.Nat.{_≤_, _-_}
+use native.Mathlib.Omega.{arith}
+use borrow.Author.Needs.{needs}
+use mathlib.Core.Path.{_≡_, refl, sym, _∙_}
+use lib.ListN.{length, drop}
+use Rattle.text.specs.Words.{all}
+use Rattle.text.specs.Chars.{is-ascii, is-scalar}
+use Rattle.text.specs.Utf8.{chars, is-utf8}
+use Rattle.text.proofs.Laws.{Step, advance-end, no-char, some-char, stuck, scalar-is}
+use Rattle.text.proofs.RunLaws.{run-next}
+use Rattle.text.proofs.AsciiLaws.{low-ascii, run-to}
+use Rattle.text.proofs.decoding.is_utf8.Statement.{statement}
+use Rattle.text.proofs.decoding.is_utf8.Tie as tie
+
+abbrev Inv-loop : tie.InvT-loop
+Inv-loop s i₀ i = (all is-scalar (chars s) ≡ all is-scalar (chars (drop i s))) × (i ≤ length s)
+
+abbrev μ-loop : tie.MeasureT-loop
+μ-loop s i₀ i = length s - i
+
+-- the step over a character, near the end and elsewhere
+last-step : (c : tie.Else3 Inv-loop μ-loop) → (x : _) × Step (c .before .before .before .before .before .before .before .before .args .s .now) (c .before .before .before .before .before .before .loop .i) x (c .before .size-near-end .result)
+last-step c = some-char _ _ _ (c .before .size-near-end .ensures) (c .if3 .left)
+
+step : (c : tie.Else4 Inv-loop μ-loop) → (x : _) × Step (c .before .before .before .before .before .before .before .before .args .s .now) (c .before .before .before .before .before .before .loop .i) x (c .before .size4 .result)
+step c = some-char _ _ _ (c .before .size4 .ensures) (c .if4 .left)
+
+loop-holds : tie.Need-loop-holds Inv-loop μ-loop
+loop-holds c = (refl, omega arith)
+
+shared-slice-read-if1 : tie.Need-shared-slice-read-if1 Inv-loop μ-loop
+shared-slice-read-if1 c = omega arith
+
+ascii-end-requires : tie.Need-ascii-end-requires Inv-loop μ-loop
+ascii-end-requires c κs = search needs
+
+loop-less : tie.Need-loop-less Inv-loop μ-loop
+loop-less c =
+    let z = run-next is-ascii (c .before .before .before .before .before .before .args .s .now) (c .before .before .before .before .loop .i) (c .before .before .before .loop-test .taken) (low-ascii _ (c .before .if1 .taken)) in
+    let e = c .ascii-end .ensures in
+    omega arith
+
+loop-again : tie.Need-loop-again Inv-loop μ-loop
+loop-again c = let r = run-to (c .before .before .before .before .before .before .args .s .now) (c .before .before .before .before .loop .i) (c .ascii-end .result) (omega arith) (c .ascii-end .ensures) in (c .before .before .before .before .loop .inv .0 ∙ r .0, r .2)
+
+sub-if2 : tie.Need-sub-if2 Inv-loop μ-loop
+sub-if2 c = omega arith
+
+size-near-end-requires : tie.Need-size-near-end-requires Inv-loop μ-loop
+size-near-end-requires c κs = omega arith
+
+returns : tie.Need-returns Inv-loop μ-loop
+unfolding is-utf8
+returns c = sym (c .before .before .before .before .before .before .loop .inv .0 ∙ stuck _ _ (c .before .before .before .before .before .loop-test .taken) (no-char (c .before .before .before .before .before .before .before .before .args .s .now) (c .before .before .before .before .before .before .loop .i) (sym (c .before .size-near-end .ensures) ∙ c .if3 .taken)))
+
+add-i : tie.Need-add-i Inv-loop μ-loop
+add-i c = let h = last-step c .1 in omega arith
+
+loop-less-2 : tie.Need-loop-less-2 Inv-loop μ-loop
+loop-less-2 c = let h = last-step c .1 in omega arith
+
+loop-again-2 : tie.Need-loop-again-2 Inv-loop μ-loop
+loop-again-2 c =
+    let h = last-step c .1 in
+    (c .before .before .before .before .before .before .loop .inv .0 ∙ rw (h .rest, scalar-is _ (h .scalar)), h .bound)
+
+size4-requires : tie.Need-size4-requires Inv-loop μ-loop
+size4-requires c κs = omega arith
+
+returns-2 : tie.Need-returns-2 Inv-loop μ-loop
+unfolding is-utf8
+returns-2 c = sym (c .before .before .before .before .before .before .loop .inv .0 ∙ stuck _ _ (c .before .before .before .before .before .loop-test .taken) (no-char (c .before .before .before .before .before .before .before .before .args .s .now) (c .before .before .before .before .before .before .loop .i) (sym (c .before .size4 .ensures) ∙ c .if4 .taken)))
+
+add-i-2 : tie.Need-add-i-2 Inv-loop μ-loop
+add-i-2 c = let h = step c .1 in omega arith
+
+loop-less-3 : tie.Need-loop-less-3 Inv-loop μ-loop
+loop-less-3 c = let h = step c .1 in omega arith
+
+loop-again-3 : tie.Need-loop-again-3 Inv-loop μ-loop
+loop-again-3 c =
+    let h = step c .1 in
+    (c .before .before .before .before .before .before .loop .inv .0 ∙ rw (h .rest, scalar-is _ (h .scalar)), h .bound)
+
+returns-3 : tie.Need-returns-3 Inv-loop μ-loop
+unfolding is-utf8
+returns-3 c = sym (c .before .loop .inv .0 ∙ rw (advance-end _ _ (c .loop-test .left)))
+
+pub is-utf8-spec : {M : Type 1} → statement M
+is-utf8-spec =
+    tie.close
+    (tie.spec
+    Inv-loop
+    μ-loop
+    loop-holds
+    shared-slice-read-if1
+    ascii-end-requires
+    loop-less
+    loop-again
+    sub-if2
+    size-near-end-requires
+    returns
+    add-i
+    loop-less-2
+    loop-again-2
+    size4-requires
+    returns-2
+    add-i-2
+    loop-less-3
+    loop-again-3
+    returns-3)

@@ -1,0 +1,87 @@
+// Bytes searched and compared.
+ghost use Prim.Native.Nat.{_+_, _≤_};
+ghost use mathlib.Core.Path.{_≡_};
+ghost use mathlib.Core.List.{[], _∷_};
+ghost use lib.ListN.{length, take, drop};
+ghost use Rattle.text.specs.Words.{all, starts-with, index};
+ghost use Rattle.text.specs.Run.{RunTo, other};
+ghost use Rattle.text.specs.Find.{found};
+use crate::Found;
+
+// Whether the 16 bytes from i on are other bytes than b, tested as in `is_ascii_block`.
+fn is_other_block(s: &[u8], i: usize, b: u8) -> bool
+    requires { ⌜ i + 16 ≤ length (now s) ⌝ }
+    ensures { λ r. ⌜ r ≡ all (other b) (take 16 (drop i (now (s .entry)))) ⌝ }
+{
+    let mut others = true;
+    let mut k = 0;
+    while k < 16 {
+        others = others & (s[i + k] != b);
+        k += 1;
+    }
+    others
+}
+
+// Where the blocks of 16 bytes from i on without b end.
+fn other_blocks(s: &[u8], i: usize, b: u8) -> usize
+    requires { ⌜ i ≤ length (now s) ⌝ }
+    ensures { λ r. ⌜ RunTo (other b) (now (s .entry)) i r ⌝ }
+{
+    let mut j = i;
+    while 16 <= s.len() - j {
+        if !is_other_block(s, j, b) {
+            return j;
+        }
+        j += 16;
+    }
+    j
+}
+
+// The first b of s at or after i. Most that is looked for is near, so the first 8 bytes are looked at one by one.
+pub fn find(s: &[u8], i: usize, b: u8) -> Found
+    ensures { λ r. ⌜ r ≡ found i (index (b ∷ []) (drop i (now (s .entry)))) ⌝ }
+{
+    if s.len() <= i {
+        return Found::Nowhere;
+    }
+    let mut j = i;
+    let mut k: usize = 0;
+    while k < 8 {
+        if s.len() <= j {
+            return Found::Nowhere;
+        }
+        if s[j] == b {
+            return Found::Here(j);
+        }
+        j += 1;
+        k += 1;
+    }
+    let mut e = other_blocks(s, j, b);
+    while e < s.len() {
+        if s[e] == b {
+            return Found::Here(e);
+        }
+        e += 1;
+    }
+    Found::Nowhere
+}
+
+// Whether p stands at i.
+pub fn starts_with(s: &[u8], i: usize, p: &[u8]) -> bool
+    ensures { λ r. ⌜ r ≡ starts-with (now (p .entry)) (drop i (now (s .entry))) ⌝ }
+{
+    if s.len() < i {
+        return p.len() == 0;
+    }
+    if s.len() - i < p.len() {
+        return false;
+    }
+    let mut j = 0;
+    while j < p.len() {
+        if s[i + j] != p[j] {
+            return false;
+        }
+        j += 1;
+    }
+    true
+}
