@@ -1,34 +1,33 @@
--- Laws of a tag's name: byte by byte, through the tables, and in bytes as in characters.
+-- Laws of a tag's name: byte by byte, as a number, through the tables, and in bytes as in characters.
 -- Assumes nothing.
-use Prim.Native.Nat.{ℕ, suc, _+_, _≤_, _<_}
+use Prim.Native.Nat.{ℕ, _+_, _-_, _*_, _^_, _≤_, _<_}
 use Prim.Native.String.{String}
 use native.Mathlib.Omega.{arith}
+use native.Mathlib.Nat.{pow-suc, pow-le-pow-right}
 use native.Mathlib.Numerals.{add-one}
 use mathlib.Core.Path.{_≡_, refl, sym, ap, ap₂, _∙_}
 use mathlib.Core.Bool.{Bool, true, false, cond, _&&_, _||_}
-use mathlib.Core.Logic.{_⊎_, inl, inr, ⊎-elim}
-use mathlib.Core.Option.{Option, none, some}
-use mathlib.Core.List.{List, [], _∷_, map, tail}
-use lib.Dec.{eqb, leb}
+use mathlib.Core.Logic.{⊎-elim}
+use mathlib.Core.Option.{some}
+use mathlib.Core.List.{List, [], _∷_, map, reverse, reverseAux, reverse-reverse}
+use lib.Dec.{eqb, leb, ltb}
 use lib.ListN.{length, getD, drop, drop-of-length-le}
 use lib.Seq.{drop-cons}
-use borrow.Author.Tests.{eq-eqb, ne-eqb, eqb-true, ltb-true, ltb-false, le-leb, lt-leb}
-use lib.Dec.{ltb}
-use Rattle.text.specs.Words.{if_then_else_, case, str, same, lookup, take-while}
+use borrow.Author.Tests.{eq-eqb, ne-eqb, eqb-true, ltb-true, ltb-false, le-leb, lt-leb, leb-true, leb-false}
+use Rattle.text.specs.Words.{if_then_else_, case, str, all, same, lookup, take-while}
 use Rattle.text.specs.Chars.{within, is-alphanumeric, is-digit, to-lower}
 use Rattle.text.specs.Utf8.{chars}
-use Rattle.text.proofs.Tests.{decide, on, and-true, within-true, within-above, or-elim}
+use Rattle.text.proofs.Tests.{decide, on, and-true, within-true, within-is, within-above, or-elim}
 use Rattle.text.proofs.Laws.{chars-nil}
 use Rattle.text.proofs.AsciiLaws.{chars-ascii, chars-high}
 use Rattle.html.specs.State as state
 use Rattle.html.specs.State.{tags, tag-of, other}
 use Rattle.html.specs.Struct.{tag-means}
-use Rattle.html.specs.Names.{name-of, folded, Rows, find, writing, says, Elsewhere, tag-skip, skip-no}
-use Rattle.html.specs.declared.Skip.{Skip}
-use Rattle.html.specs.declared.Skip.the-variants.{Nothing, Script, Style}
+use Rattle.html.specs.Names.{name-of, folded, digits, key, Rows, find, writing, table, says, tag-skip, skip-no}
+use Rattle.html.specs.declared.Skip.the-variants.{Script, Style}
 use Rattle.html.specs.declared.Tag.{Tag}
-use Rattle.html.specs.declared.Tag.the-variants.{Ul, Ol, Skipped, Writes}
-use Rattle.html.specs.declared.Step.the-variants.{Heading, Block, Pre, Break, Item, Row, Cell, Strong, Emphasis, Code, Other}
+use Rattle.html.specs.declared.Tag.the-variants.{Skipped, Writes}
+use Rattle.html.specs.declared.Step.the-variants.{Other}
 
 -- ---- a byte in lower case
 pub folded-digit : (b : ℕ) → 48 ≤ b → b < 58 → b ≡ folded b
@@ -68,24 +67,24 @@ name-cons b s = go (is-alphanumeric b)
     go true = refl
     go false = refl
 
-alphanumeric-low : (b : ℕ) → is-alphanumeric b ≡ true → 48 ≤ b
-alphanumeric-low b e =
-    or-elim (is-digit b) (within 65 90 b || within 97 122 b) (λ d. within-true 48 57 b d .0)
-    (λ l. or-elim (within 65 90 b) (within 97 122 b) (λ u. let h = within-true 65 90 b u .0 in omega arith) (λ u. let h = within-true 97 122 b u .0 in omega arith) l)
-    e
+-- a byte of a name is a letter in lower case or a digit
+lower-within : (b : ℕ) → is-alphanumeric b ≡ true → within 48 122 (to-lower b) ≡ true
+lower-within b e =
+    on (λ (x : ℕ). within 48 122 x ≡ true) (within 65 90 b) (λ u. let h = within-true 65 90 b u in within-is 48 122 (b + 32) (omega arith) (omega arith))
+    (λ u.
+    or-elim (is-digit b) (within 65 90 b || within 97 122 b) (λ d. let h = within-true 48 57 b d in within-is 48 122 b (omega arith) (omega arith))
+    (λ l. or-elim (within 65 90 b) (within 97 122 b) (λ v. let y : true ≡ false = sym v ∙ u in cc) (λ v. let h = within-true 97 122 b v in within-is 48 122 b (omega arith) (omega arith)) l)
+    e)
 
-lower-low : (b : ℕ) → 48 ≤ b → 48 ≤ to-lower b
-lower-low b h = on (λ (x : ℕ). 48 ≤ x) (within 65 90 b) (λ _. omega arith) (λ _. h)
-
-pub fold-no : (b : ℕ) (s : List ℕ) → folded b ≡ 0 → name-of (b ∷ s) ≡ []
+fold-no : (b : ℕ) (s : List ℕ) → folded b ≡ 0 → name-of (b ∷ s) ≡ []
 unfolding folded
 fold-no b s e =
     ⊎-elim
-    (λ t. let l = lower-low b (alphanumeric-low b t) in absurd (omega (arith, rw t at e)))
+    (λ t. let l = within-true 48 122 (to-lower b) (lower-within b t) in absurd (omega (arith, rw t at e)))
     (λ t. name-cons b s ∙ rw t)
     (decide (is-alphanumeric b))
 
-pub fold-yes : (b : ℕ) (s : List ℕ) → (folded b ≡ 0 → ⊥) → name-of (b ∷ s) ≡ folded b ∷ name-of s
+fold-yes : (b : ℕ) (s : List ℕ) → (folded b ≡ 0 → ⊥) → name-of (b ∷ s) ≡ folded b ∷ name-of s
 unfolding folded
 fold-yes b s n =
     ⊎-elim
@@ -93,7 +92,7 @@ fold-yes b s n =
     (λ t. absurd (n (rw t)))
     (decide (is-alphanumeric b))
 
-pub name-nil : name-of [] ≡ []
+name-nil : name-of [] ≡ []
 unfolding name-of take-while
 name-nil = refl
 
@@ -104,107 +103,188 @@ name-end s i h = rw (drop-of-length-le s h) name-nil
 pub name-stop : (s : List ℕ) (i : ℕ) → i < length s → folded (getD s i 0) ≡ 0 → name-of (drop i s) ≡ []
 name-stop s i h e = rw (drop-cons s i 0 h) (fold-no _ _ e)
 
-pub name-more : (s : List ℕ) (i : ℕ) → i < length s → (folded (getD s i 0) ≡ 0 → ⊥) → name-of (drop i s) ≡ folded (getD s i 0) ∷ name-of (drop (i + 1) s)
+name-more : (s : List ℕ) (i : ℕ) → i < length s → (folded (getD s i 0) ≡ 0 → ⊥) → name-of (drop i s) ≡ folded (getD s i 0) ∷ name-of (drop (i + 1) s)
 name-more s i h e = rw (drop-cons s i 0 h, add-one i) (fold-yes _ _ e)
 
--- its first byte
-pub name-first : (s : List ℕ) → 0 < length s → getD (name-of s) 0 0 ≡ folded (getD s 0 0)
-name-first [] h = absurd (omega arith)
-name-first (b ∷ s) h =
+-- ---- the name as a number
+abbrev all-digits : List ℕ → Bool
+all-digits n = all (within 48 122) n
+
+name-digits : (s : List ℕ) → all-digits (name-of s) ≡ true
+name-digits [] = rw name-nil
+name-digits (b ∷ s) =
+    rw (name-cons b s)
+    (on (λ (n : List ℕ). all-digits n ≡ true) (is-alphanumeric b) (λ t. rw (lower-within b t) (name-digits s)) (λ _. refl))
+
+folded-within : (b : ℕ) → (folded b ≡ 0 → ⊥) → (48 ≤ folded b) × (folded b ≤ 122)
+unfolding folded
+folded-within b n =
     ⊎-elim
-    (λ e. let z = eqb-true (folded b) 0 e in rw (fold-no b s z) (sym z))
-    (λ e. rw (fold-yes b s (λ z. let q = eq-eqb (folded b) 0 z in let y : _≡_ {A = ℕ} 0 1 = cc in absurd (omega arith))))
-    (decide (eqb (folded b) 0))
+    (λ t. rw t (within-true 48 122 (to-lower b) (lower-within b t)))
+    (λ t. absurd (n (rw t)))
+    (decide (is-alphanumeric b))
 
--- ---- what is left of the name looked for
-pub same-short : (name : List ℕ) (i : ℕ) → i < length name → same (drop i name) [] ≡ false
-same-short name i h = rw (drop-cons name i 0 h)
+-- its digits, the last one first
+abbrev val : List ℕ → ℕ
+val [] = 0
+val (b ∷ r) = val r * 76 + (b - 47)
 
-pub same-other : (name l : List ℕ) (i b : ℕ) → i < length name → (b ≡ getD name i 0 → ⊥) → same (drop i name) (b ∷ l) ≡ false
-same-other name l i b h e = rw (drop-cons name i 0 h, ne-eqb (getD name i 0) b (λ q. e (sym q)))
+digits-val : (n r : List ℕ) → digits (val r) n ≡ val (reverseAux n r)
+digits-val [] r = refl
+digits-val (b ∷ n) r = digits-val n (b ∷ r)
 
-pub same-more : (name l : List ℕ) (i b : ℕ) → i < length name → b ≡ getD name i 0 → same (drop i name) (b ∷ l) ≡ same (drop (i + 1) name) l
-same-more name l i b h e = rw (drop-cons name i 0 h, eq-eqb (getD name i 0) b (sym e), add-one i)
+digits-aux : (n r : List ℕ) → all-digits n ≡ true → all-digits r ≡ true → all-digits (reverseAux n r) ≡ true
+digits-aux [] r h k = k
+digits-aux (b ∷ n) r h k = let p = and-true (within 48 122 b) (all-digits n) h in digits-aux n (b ∷ r) (p .1) (rw (p .0) k)
 
-pub same-done : (name : List ℕ) (i : ℕ) → length name ≤ i → same (drop i name) [] ≡ true
-same-done name i h = rw (drop-of-length-le name h)
+-- two names with the same digits are one
+val-is : (r q : List ℕ) → all-digits r ≡ true → all-digits q ≡ true → val r ≡ val q → r ≡ q
+val-is [] [] h k e = refl
+val-is [] (b ∷ q) h k e = let y = within-true 48 122 b (and-true (within 48 122 b) (all-digits q) k .0) in absurd (omega arith)
+val-is (a ∷ r) [] h k e = let x = within-true 48 122 a (and-true (within 48 122 a) (all-digits r) h .0) in absurd (omega arith)
+val-is (a ∷ r) (b ∷ q) h k e =
+    let p = and-true (within 48 122 a) (all-digits r) h in
+    let t = and-true (within 48 122 b) (all-digits q) k in
+    let x = within-true 48 122 a (p .0) in
+    let y = within-true 48 122 b (t .0) in
+    ap₂ _∷_ (omega arith) (val-is r q (p .1) (t .1) (omega arith))
 
-pub same-last : (name s : List ℕ) (i : ℕ) → length name ≤ i → i < length s → eqb (folded (getD s i 0)) 0 ≡ same (drop i name) (name-of (drop i s))
-same-last name s i h k =
-    rw (drop-of-length-le name h)
-    (⊎-elim
-    (λ e. rw (name-stop s i k (eqb-true (folded (getD s i 0)) 0 e), e))
-    (λ e. rw (name-more s i k (λ z. let q = eq-eqb (folded (getD s i 0)) 0 z in let y : _≡_ {A = ℕ} 0 1 = cc in absurd (omega arith)), e))
-    (decide (eqb (folded (getD s i 0)) 0)))
+digits-is : (n p : List ℕ) → all-digits n ≡ true → all-digits p ≡ true → digits 0 n ≡ digits 0 p → n ≡ p
+digits-is n p h k e =
+    sym (reverse-reverse n)
+    ∙ ap reverse (val-is (reverse n) (reverse p) (digits-aux n [] h refl) (digits-aux p [] k refl) (sym (digits-val n []) ∙ e ∙ digits-val p []))
+    ∙ reverse-reverse p
 
--- ---- a name of a table, and the rest of the table
-pub named-yes : (r : String × Tag) (rows : Rows) (n : List ℕ) (t : Bool) → t ≡ same (str (r .0)) n → t ≡ true → r .1 ≡ find (r ∷ rows) n
-unfolding find
-named-yes r rows n t h k = rw (sym h ∙ k)
+key-short : (n : List ℕ) → length n ≤ 10 → key n ≡ digits 0 n
+unfolding key
+key-short n h = rw (le-leb (length n) 10 h)
 
-pub named-no : (r : String × Tag) (rows : Rows) (n : List ℕ) (t : Bool) → t ≡ same (str (r .0)) n → t ≡ false → find (r ∷ rows) n ≡ find rows n
-unfolding find
-named-no r rows n t h k = rw (sym h ∙ k)
+key-long : (n : List ℕ) → 10 < length n → key n ≡ 0
+unfolding key
+key-long n h = rw (lt-leb (length n) 10 h)
 
-pub find-nil : (n : List ℕ) → Writes Other ≡ find [] n
-unfolding find
-find-nil n = refl
+-- a name that has a number of its own
+abbrev short : List ℕ → Bool
+short p = all-digits p && within 1 10 (length p)
 
--- ---- the names by their first letter
-abbrev pub rows-b : Rows
-rows-b = ("blockquote", Writes Block) ∷ ("br", Writes Break) ∷ ("b", Writes Strong) ∷ []
+key-is : (p n : List ℕ) → short p ≡ true → all-digits n ≡ true → key p ≡ key n → p ≡ n
+key-is p n h k e =
+    let d = and-true (all-digits p) (within 1 10 (length p)) h in
+    let l = within-true 1 10 (length p) (d .1) in
+    ⊎-elim
+    (λ t. digits-is p n (d .0) k (sym (key-short p (l .1)) ∙ e ∙ key-short n (leb-true (length n) 10 t)))
+    (λ t.
+    let z = digits-is p [] (d .0) refl (sym (key-short p (l .1)) ∙ e ∙ key-long n (leb-false (length n) 10 t)) in
+    absurd (omega (arith, ap length z)))
+    (decide (leb (length n) 10))
 
-abbrev pub rows-h : Rows
-rows-h = ("h1", Writes (Heading 1)) ∷ ("h2", Writes (Heading 2)) ∷ ("h3", Writes (Heading 3)) ∷ ("h4", Writes (Heading 4)) ∷ ("h5", Writes (Heading 5)) ∷ ("h6", Writes (Heading 6)) ∷ ("hr", Writes Block) ∷ []
+-- ---- the number byte by byte
+-- k is the number of the first i bytes of the name, at most ten
+pub record Keyed (s : List ℕ) (k i : ℕ) : Type 0 where
+  pub few : i ≤ 10
+  pub small : k < 76 ^ i
+  pub left : digits k (name-of (drop i s)) ≡ digits 0 (name-of s)
+  pub long : length (name-of (drop i s)) + i ≡ length (name-of s)
 
-abbrev pub rows-p : Rows
-rows-p = ("p", Writes Block) ∷ ("pre", Writes Pre) ∷ []
+-- and b is the next one
+pub record Next (s : List ℕ) (k i b : ℕ) : Type 0 where
+  pub low : 47 < b
+  pub high : b < 123
+  pub fits : k * 76 + (b - 47) < 2 ^ 64
+  pub keyed : Keyed s (k * 76 + (b - 47)) (i + 1)
 
-abbrev pub rows-s : Rows
-rows-s = ("script", Skipped Script) ∷ ("style", Skipped Style) ∷ ("strong", Writes Strong) ∷ []
+pub keyed-none : (s : List ℕ) → Keyed s 0 0
+keyed-none s = record { few = omega arith; small = omega arith; left = refl; long = omega arith }
 
-abbrev pub rows-t : Rows
-rows-t = ("table", Writes Block) ∷ ("tr", Writes Row) ∷ ("td", Writes Cell) ∷ ("th", Writes Cell) ∷ []
+module _ (s : List ℕ) (k i : ℕ) (t : Keyed s k i) where
+  pub keyed-all : name-of (drop i s) ≡ [] → k ≡ key (name-of s)
+  keyed-all e =
+      let l : length (name-of s) ≤ 10 = omega (arith, t .few, t .long, ap length e) in
+      sym (key-short (name-of s) l ∙ sym (t .left) ∙ ap (digits k) e)
 
-abbrev pub rows-other : Rows
-rows-other = ("div", Writes Block) ∷ ("ul", Ul) ∷ ("ol", Ol) ∷ ("li", Writes Item) ∷ ("em", Writes Emphasis) ∷ ("i", Writes Emphasis) ∷ ("code", Writes Code) ∷ []
+  module _ (b : ℕ) (h : i < length s) (e : b ≡ folded (getD s i 0)) (n : b ≡ 0 → ⊥) where
+    more : name-of (drop i s) ≡ b ∷ name-of (drop (i + 1) s)
+    more = rw e (name-more s i h (λ z. n (e ∙ z)))
 
-first-is : (n : List ℕ) (x : ℕ) → getD n 0 0 ≡ suc x → n ≡ suc x ∷ tail n
-first-is [] x e = absurd (omega arith)
-first-is (y ∷ n) x e = ap (λ (z : ℕ). z ∷ n) e
+    pub keyed-over : i ≡ 10 → 0 ≡ key (name-of s)
+    keyed-over q = sym (key-long (name-of s) (omega (arith, t .long, ap length more)))
 
-pub says-b : (n : List ℕ) → getD n 0 0 ≡ 98 → says n ≡ find rows-b n
-unfolding says find writing
-says-b n e = rw (first-is n 97 e)
+    pub keyed-next : (i ≡ 10 → ⊥) → Next s k i b
+    keyed-next q =
+        let d : (48 ≤ b) × (b ≤ 122) = rw e (folded-within (getD s i 0) (λ z. n (e ∙ z))) in
+        let few : i + 1 ≤ 10 = omega (arith, t .few) in
+        let less : k * 76 + (b - 47) < 76 ^ (i + 1) = rw (add-one i, pow-suc 76 i) (omega (arith, t .small)) in
+        let most : 76 ^ (i + 1) ≤ 76 ^ 10 = pow-le-pow-right (omega arith) {i = i + 1} {j = 10} few in
+        record {
+          low = omega arith;
+          high = omega arith;
+          fits = omega arith;
+          keyed = record { few = few; small = less; left = sym (ap (digits k) more) ∙ t .left; long = omega (arith, t .long, ap length more) };
+        }
 
-pub says-h : (n : List ℕ) → getD n 0 0 ≡ 104 → says n ≡ find rows-h n
-unfolding says find writing
-says-h n e = rw (first-is n 103 e)
-
-pub says-p : (n : List ℕ) → getD n 0 0 ≡ 112 → says n ≡ find rows-p n
-unfolding says find writing
-says-p n e = rw (first-is n 111 e)
-
-pub says-s : (n : List ℕ) → getD n 0 0 ≡ 115 → says n ≡ find rows-s n
-unfolding says find writing
-says-s n e = rw (first-is n 114 e)
-
-pub says-t : (n : List ℕ) → getD n 0 0 ≡ 116 → says n ≡ find rows-t n
-unfolding says find writing
-says-t n e = rw (first-is n 115 e)
-
-pub says-other : (n : List ℕ) → Elsewhere (getD n 0 0) → says n ≡ find rows-other n
-unfolding says find writing
-says-other [] h = refl
-says-other (x ∷ n) h = simp (ne-eqb 98 x (h .not-b), ne-eqb 104 x (h .not-h), ne-eqb 112 x (h .not-p), ne-eqb 115 x (h .not-s), ne-eqb 116 x (h .not-t))
-
--- ---- what the name means in notes.rs
+-- ---- what a table says by that number
 pub same-is : (s t : List ℕ) → same s t ≡ true → s ≡ t
 same-is [] [] e = refl
 same-is [] (d ∷ t) e = let y : _≡_ {A = ℕ} 0 1 = cc in absurd (omega arith)
 same-is (c ∷ s) [] e = let y : _≡_ {A = ℕ} 0 1 = cc in absurd (omega arith)
 same-is (c ∷ s) (d ∷ t) e = let p = and-true (eqb c d) (same s t) e in ap₂ _∷_ (eqb-true c d (p .0)) (same-is s t (p .1))
 
+same-self : (s : List ℕ) → same s s ≡ true
+same-self [] = refl
+same-self (c ∷ s) = rw (eq-eqb c c refl) (same-self s)
+
+same-key : (p n : List ℕ) → short p ≡ true → all-digits n ≡ true → same p n ≡ eqb (key p) (key n)
+same-key p n h k = go (same p n) refl
+  where
+    go : (t : Bool) → same p n ≡ t → t ≡ eqb (key p) (key n)
+    go true e = sym (eq-eqb (key p) (key n) (ap key (same-is p n e)))
+    go false e = sym (ne-eqb (key p) (key n) (λ q. let y : true ≡ false = sym (same-self p) ∙ ap (same p) (key-is p n h k q) ∙ e in let z : _≡_ {A = ℕ} 0 1 = cc in omega arith))
+
+abbrev pub found : Rows → ℕ → Tag
+found [] k = Writes Other
+found (r ∷ rows) k = let later = found rows k in if eqb (key (str (r .0))) k then r .1 else later
+
+abbrev all-short : Rows → Bool
+all-short [] = true
+all-short (r ∷ rows) = short (str (r .0)) && all-short rows
+
+find-key : (rows : Rows) (n : List ℕ) → all-short rows ≡ true → all-digits n ≡ true → find rows n ≡ found rows (key n)
+unfolding find
+find-key [] n h k = refl
+find-key (r ∷ rows) n h k =
+    let p = and-true (short (str (r .0))) (all-short rows) h in
+    rw (same-key (str (r .0)) n (p .0) k) (go (eqb (key (str (r .0))) (key n)) (find-key rows n (p .1) k))
+  where
+    go : (t : Bool) → find rows n ≡ found rows (key n) → case (if t then some (r .1) else lookup rows n) (Writes Other) (λ x. x) ≡ (if t then r .1 else found rows (key n))
+    go true e = refl
+    go false e = e
+
+says-key : (s : List ℕ) (k : ℕ) → k ≡ key (name-of s) → says (name-of s) ≡ found table k
+unfolding table says writing key
+says-key s k e = find-key table (name-of s) refl (name-digits s) ∙ ap (found table) (sym e)
+
+pub says-found : (s : List ℕ) {k j : ℕ} → k ≡ key (name-of s) → k ≡ j → found table j ≡ says (name-of s)
+says-found s {k} e h = sym (says-key s k e ∙ ap (found table) h)
+
+-- k is the number of no row, in the shape that a `match` leaves
+abbrev pub Missed : Rows → ℕ → Type 0 → Type 0
+Missed [] k X = X
+Missed (r ∷ rows) k X = Missed rows k (X × (k ≡ key (str (r .0)) → ⊥))
+
+missed-first : (rows : Rows) (k : ℕ) (X : Type 0) → Missed rows k X → X
+missed-first [] k X m = m
+missed-first (r ∷ rows) k X m = missed-first rows k (X × (k ≡ key (str (r .0)) → ⊥)) m .0
+
+found-none : (rows : Rows) (k : ℕ) (X : Type 0) → Missed rows k X → found rows k ≡ Writes Other
+found-none [] k X m = refl
+found-none (r ∷ rows) k X m =
+    let Y = X × (k ≡ key (str (r .0)) → ⊥) in
+    rw (ne-eqb (key (str (r .0))) k (λ e. missed-first rows k Y m .1 (sym e))) (found-none rows k Y m)
+
+pub says-none : (s : List ℕ) {k : ℕ} → k ≡ key (name-of s) → Missed table k Unit → Writes Other ≡ says (name-of s)
+says-none s {k} e m = sym (says-key s k e ∙ found-none table k Unit m)
+
+-- ---- what the name means in notes.rs
 abbrev means-rows : Rows → List (String × state.Tag)
 means-rows [] = []
 means-rows (r ∷ rows) = (r .0, tag-means (r .1)) ∷ means-rows rows
@@ -224,7 +304,7 @@ unfolding writing tag-of tags
 writing-means n = find-means writing n
 
 says-first : (n : List ℕ) → says n ≡ (if same (str "script") n then Skipped Script else if same (str "style") n then Skipped Style else find writing n)
-unfolding says find
+unfolding says table find
 says-first n = go (same (str "script") n) (same (str "style") n)
   where
     go : (a b : Bool) → case (if a then some (Skipped Script) else if b then some (Skipped Style) else lookup writing n) (Writes Other) (λ x. x) ≡ (if a then Skipped Script else if b then Skipped Style else case (lookup writing n) (Writes Other) (λ x. x))

@@ -1,9 +1,10 @@
 -- A tag's name, and what it says to the code: `tag-means` gives the tag of notes.rs, and `script` and `style` are skipped.
 -- Assumes nothing.
-use Prim.Native.Nat.{ℕ}
+use Prim.Native.Nat.{ℕ, _+_, _-_, _*_}
 use Prim.Native.String.{String}
-use mathlib.Core.Path.{_≡_}
 use mathlib.Core.List.{List, [], _∷_, map}
+use lib.Dec.{leb}
+use lib.ListN.{length}
 use Rattle.text.specs.Words.{if_then_else_, case, lookup, take-while}
 use Rattle.text.specs.Chars.{is-alphanumeric, to-lower}
 use Rattle.html.specs.declared.Skip.{Skip}
@@ -19,6 +20,14 @@ name-of s = map to-lower (take-while is-alphanumeric s)
 -- one byte of it, and 0 for a byte that ends it
 unfoldable pub folded : ℕ → ℕ
 folded b = if is-alphanumeric b then to-lower b else 0
+
+-- a name as one number: its bytes less 47 are digits in base 76, here after those of k. Ten digits stay below 2 ^ 64; a longer name has 0
+abbrev pub digits : ℕ → List ℕ → ℕ
+digits k [] = k
+digits k (b ∷ n) = digits (k * 76 + (b - 47)) n
+
+unfoldable pub key : List ℕ → ℕ
+key n = if leb (length n) 10 then digits 0 n else 0
 
 abbrev pub Rows : Type 0
 Rows = List (String × Tag)
@@ -52,16 +61,11 @@ writing =
     ∷ ("code", Writes Code)
     ∷ []
 
-unfoldable pub says : List ℕ → Tag
-says n = find (("script", Skipped Script) ∷ ("style", Skipped Style) ∷ writing) n
+unfoldable pub table : Rows
+table = ("script", Skipped Script) ∷ ("style", Skipped Style) ∷ writing
 
--- a first letter other than b, h, p, s and t
-pub record Elsewhere (x : ℕ) : Type 0 where
-  pub not-b : 98 ≡ x → ⊥
-  pub not-h : 104 ≡ x → ⊥
-  pub not-p : 112 ≡ x → ⊥
-  pub not-s : 115 ≡ x → ⊥
-  pub not-t : 116 ≡ x → ⊥
+unfoldable pub says : List ℕ → Tag
+says n = find table n
 
 -- a number for each skipped tag, 0 for none, by which two are compared; and the skipped tag that a tag is
 abbrev pub skip-no : Skip → ℕ

@@ -1,107 +1,121 @@
--- `tag_of` meets its contract.
+-- `tag_of` meets its contract: each arm is a row of the table by its number, and the last one is for a number of no row.
 -- Assumes nothing.
-use mathlib.Core.Path.{_≡_, refl, sym, ap, _∙_}
-use native.Mathlib.Omega.{arith}
-use denote.Ref.{now}
-use Prim.Native.Nat.{ℕ, _≤_}
-use lib.ListN.{length, getD}
-use Rattle.html.specs.Names.{name-of, says, find, writing}
-use Rattle.html.proofs.NameLaws.{name-first, name-end}
+use Rattle.html.specs.Names.{key, writing, table}
+use Rattle.html.proofs.NameLaws.{says-found, says-none}
 use borrow.Author.Needs.{needs}
 use Rattle.html.proofs.names.tag_of.Statement.{statement}
 use Rattle.html.proofs.names.tag_of.Tie as tie
-use Rattle.html.proofs.names.tag_of.Reads as reads
-use Rattle.html.proofs.names.tag_of.Lts as lts
-use Rattle.html.proofs.names.folded.Reads as folded-reads
-use Rattle.html.proofs.names.names_b.Reads as names-b-reads
-use Rattle.html.proofs.names.names_h.Reads as names-h-reads
-use Rattle.html.proofs.names.names_other.Reads as names-other-reads
-use Rattle.html.proofs.names.names_p.Reads as names-p-reads
-use Rattle.html.proofs.names.names_s.Reads as names-s-reads
-use Rattle.html.proofs.names.names_t.Reads as names-t-reads
+
+key-requires : tie.Need-key-requires
+key-requires c κs = search needs
 
 returns : tie.Need-returns
-unfolding says find writing
-returns c =
-    let a = now (c .before .before .args .s) in
-    let z : length a ≤ 0 = omega arith in
-    sym (ap says (name-end a 0 z))
-
-shared-slice-read-folded : tie.Need-shared-slice-read-folded
-shared-slice-read-folded c = search needs
-
-folded-requires : tie.Need-folded-requires
-folded-requires c κs = search needs
-
-names-b-requires : tie.Need-names-b-requires
-names-b-requires c κs =
-    let q : getD (name-of (now (c .before .before .before .before .before .args .s))) 0 0 ≡ c .before .folded .result = name-first (now (c .before .before .before .before .before .args .s)) (omega arith) ∙ sym (c .before .folded .ensures) in
-    q
-    ∙ c .if2 .taken
+unfolding table writing key
+returns c = says-found _ (c .before .key .ensures) (c .match .keys1)
 
 returns-2 : tie.Need-returns-2
-returns-2 c = search needs
-
-names-h-requires : tie.Need-names-h-requires
-names-h-requires c κs =
-    let q : getD (name-of (now (c .before .before .before .before .before .before .args .s))) 0 0 ≡ c .before .before .folded .result = name-first (now (c .before .before .before .before .before .before .args .s)) (omega arith) ∙ sym (c .before .before .folded .ensures) in
-    q
-    ∙ c .if3 .taken
+unfolding table writing key
+returns-2 c = says-found _ (c .before .key .ensures) (c .match .keys2)
 
 returns-3 : tie.Need-returns-3
-returns-3 c = search needs
-
-names-p-requires : tie.Need-names-p-requires
-names-p-requires c κs =
-    let q : getD (name-of (now (c .before .before .before .before .before .before .before .args .s))) 0 0 ≡ c .before .before .before .folded .result = name-first (now (c .before .before .before .before .before .before .before .args .s)) (omega arith) ∙ sym (c .before .before .before .folded .ensures) in
-    q
-    ∙ c .if4 .taken
+unfolding table writing key
+returns-3 c = says-found _ (c .before .key .ensures) (c .match .keys3)
 
 returns-4 : tie.Need-returns-4
-returns-4 c = search needs
-
-names-s-requires : tie.Need-names-s-requires
-names-s-requires c κs =
-    let q : getD (name-of (now (c .before .before .before .before .before .before .before .before .args .s))) 0 0 ≡ c .before .before .before .before .folded .result = name-first (now (c .before .before .before .before .before .before .before .before .args .s)) (omega arith) ∙ sym (c .before .before .before .before .folded .ensures) in
-    q
-    ∙ c .if5 .taken
+unfolding table writing key
+returns-4 c = says-found _ (c .before .key .ensures) (c .match .keys4)
 
 returns-5 : tie.Need-returns-5
-returns-5 c = search needs
-
-names-t-requires : tie.Need-names-t-requires
-names-t-requires c κs =
-    let q : getD (name-of (now (c .before .before .before .before .before .before .before .before .before .args .s))) 0 0 ≡ c .before .before .before .before .before .folded .result = name-first (now (c .before .before .before .before .before .before .before .before .before .args .s)) (omega arith) ∙ sym (c .before .before .before .before .before .folded .ensures) in
-    q
-    ∙ c .if6 .taken
+unfolding table writing key
+returns-5 c = says-found _ (c .before .key .ensures) (c .match .keys5)
 
 returns-6 : tie.Need-returns-6
-returns-6 c = search needs
-
-names-other-requires : tie.Need-names-other-requires
-names-other-requires c κs =
-    let q : getD (name-of (now (c .before .before .before .before .before .before .before .before .before .args .s))) 0 0 ≡ c .before .before .before .before .before .folded .result = name-first (now (c .before .before .before .before .before .before .before .before .before .args .s)) (omega arith) ∙ sym (c .before .before .before .before .before .folded .ensures) in
-    record { not-b = λ e. c .before .before .before .before .if2 .left (sym q ∙ sym e); not-h = λ e. c .before .before .before .if3 .left (sym q ∙ sym e); not-p = λ e. c .before .before .if4 .left (sym q ∙ sym e); not-s = λ e. c .before .if5 .left (sym q ∙ sym e); not-t = λ e. c .if6 .left (sym q ∙ sym e) }
+unfolding table writing key
+returns-6 c = says-found _ (c .before .key .ensures) (c .match .keys6)
 
 returns-7 : tie.Need-returns-7
-returns-7 c = search needs
+unfolding table writing key
+returns-7 c = says-found _ (c .before .key .ensures) (c .match .keys7)
+
+returns-8 : tie.Need-returns-8
+unfolding table writing key
+returns-8 c = says-found _ (c .before .key .ensures) (c .match .keys8)
+
+returns-9 : tie.Need-returns-9
+unfolding table writing key
+returns-9 c = says-found _ (c .before .key .ensures) (c .match .keys9)
+
+returns-10 : tie.Need-returns-10
+unfolding table writing key
+returns-10 c = says-found _ (c .before .key .ensures) (c .match .keys10)
+
+returns-11 : tie.Need-returns-11
+unfolding table writing key
+returns-11 c = says-found _ (c .before .key .ensures) (c .match .keys11)
+
+returns-12 : tie.Need-returns-12
+unfolding table writing key
+returns-12 c = says-found _ (c .before .key .ensures) (c .match .keys12)
+
+returns-13 : tie.Need-returns-13
+unfolding table writing key
+returns-13 c = says-found _ (c .before .key .ensures) (c .match .keys13)
+
+returns-14 : tie.Need-returns-14
+unfolding table writing key
+returns-14 c = says-found _ (c .before .key .ensures) (c .match .keys14)
+
+returns-15 : tie.Need-returns-15
+unfolding table writing key
+returns-15 c = says-found _ (c .before .key .ensures) (c .match .keys15)
+
+returns-16 : tie.Need-returns-16
+unfolding table writing key
+returns-16 c = says-found _ (c .before .key .ensures) (c .match .keys16)
+
+returns-17 : tie.Need-returns-17
+unfolding table writing key
+returns-17 c = says-found _ (c .before .key .ensures) (c .match .keys17)
+
+returns-18 : tie.Need-returns-18
+unfolding table writing key
+returns-18 c = says-found _ (c .before .key .ensures) (c .match .keys18)
+
+returns-19 : tie.Need-returns-19
+unfolding table writing key
+returns-19 c = says-found _ (c .before .key .ensures) (c .match .keys19)
+
+returns-20 : tie.Need-returns-20
+unfolding table writing key
+returns-20 c = says-found _ (c .before .key .ensures) (c .match .keys20)
+
+returns-21 : tie.Need-returns-21
+unfolding table writing key
+returns-21 c = says-found _ (c .before .key .ensures) (c .match .keys21)
+
+returns-22 : tie.Need-returns-22
+unfolding table writing key
+returns-22 c = says-found _ (c .before .key .ensures) (c .match .keys22)
+
+returns-23 : tie.Need-returns-23
+unfolding table writing key
+returns-23 c = says-found _ (c .before .key .ensures) (c .match .keys23)
+
+returns-24 : tie.Need-returns-24
+unfolding table writing key
+returns-24 c = says-found _ (c .before .key .ensures) (c .match .keys24)
+
+returns-25 : tie.Need-returns-25
+unfolding table writing key
+returns-25 c = says-found _ (c .before .key .ensures) (c .match .keys25)
+
+returns-26 : tie.Need-returns-26
+unfolding table writing key
+returns-26 c = says-found _ (c .before .key .ensures) (c .match .keys26)
+
+returns-27 : tie.Need-returns-27
+unfolding table writing key
+returns-27 c = says-none _ (c .before .key .ensures) (c .match .rest)
 
 pub tag-of-spec : {M : Type 1} → statement M
-tag-of-spec =
-    tie.close
-    (tie.spec
-    returns
-    shared-slice-read-folded
-    folded-requires
-    names-b-requires
-    returns-2
-    names-h-requires
-    returns-3
-    names-p-requires
-    returns-4
-    names-s-requires
-    returns-5
-    names-t-requires
-    returns-6
-    names-other-requires
-    returns-7)
+tag-of-spec = tie.close (tie.spec key-requires returns returns-2 returns-3 returns-4 returns-5 returns-6 returns-7 returns-8 returns-9 returns-10 returns-11 returns-12 returns-13 returns-14 returns-15 returns-16 returns-17 returns-18 returns-19 returns-20 returns-21 returns-22 returns-23 returns-24 returns-25 returns-26 returns-27)
