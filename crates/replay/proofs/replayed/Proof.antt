@@ -9,8 +9,6 @@ use Rattle.replay.proofs.replayed.Lts as lts
 use Rattle.replay.proofs.holds.Reads as holds-reads
 use Rattle.replay.proofs.more.Reads as more-reads
 use Rattle.replay.proofs.size.Reads as size-reads
-use Rattle.text.proofs.decoding.byte.Reads as byte-reads
-use Rattle.text.proofs.parts.past.Reads as past-reads
 
 abbrev Inv-loop : tie.InvT-loop
 Inv-loop «data» letter at₀ run₀ differ₀ k₀ at run differ k = k ≤ 4096

@@ -14,8 +14,6 @@ use Rattle.html.proofs.Converter.inside.Tie as tie
 use Rattle.html.proofs.Converter.inside.Reads as reads
 use Rattle.html.proofs.Converter.inside.Lts as lts
 use Rattle.html.proofs.Converter.element.Reads as element-reads
-use Rattle.text.proofs.parts.past.Reads as past-reads
-use Rattle.text.proofs.search.starts_with.Reads as starts-with-reads
 
 slice-aggregate-starts-with : tie.Need-slice-aggregate-starts-with
 slice-aggregate-starts-with c = search needs

@@ -7,7 +7,6 @@ use Rattle.text.proofs.parts.is_split.Statement.{statement}
 use Rattle.text.proofs.parts.is_split.Tie as tie
 use Rattle.text.proofs.parts.is_split.Reads as reads
 use Rattle.text.proofs.parts.is_split.Lts as lts
-use Rattle.text.proofs.size_at.Reads as size-at-reads
 
 -- src/lib.rt:418:9
 returns : tie.Need-returns
