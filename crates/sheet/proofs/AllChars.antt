@@ -15,7 +15,7 @@ use Rattle.text.proofs.Tests.{within-is}
 use Rattle.html.specs.State.{special}
 use Rattle.sheet.specs.Tree.{Kind, plain, strong, em, both, code, Run, run}
 use Rattle.sheet.specs.Written.{escaped, sign, written-run, written-runs, head, item, lead, written-row}
-use Rattle.sheet.specs.Sound.{and-inv}
+use Rattle.sheet.proofs.Sound.{and-inv}
 
 pub all-append : (p : ℕ → Bool) (s t : List ℕ) → all p s ≡ true → all p t ≡ true → all p (s ++ t) ≡ true
 all-append p [] t e f = f

@@ -15,7 +15,7 @@ use Rattle.html.specs.State.{special}
 use Rattle.markdown.specs.Blocks.{comment, cleaned}
 use Rattle.sheet.specs.Tree.{Kind, plain, strong, em, both, code, Run, run, Block}
 use Rattle.sheet.specs.Written.{escaped, sign, written-run, written-runs, Row, head, text, item, rows, lead, written-row, joined, written-block, written}
-use Rattle.sheet.specs.Sound.{and-inv}
+use Rattle.sheet.proofs.Sound.{and-inv}
 use Rattle.sheet.proofs.Facts.{ordinary}
 use Rattle.sheet.proofs.AllChars.{decimal-all}
 

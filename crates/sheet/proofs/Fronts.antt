@@ -17,7 +17,7 @@ use Rattle.sheet.specs.Tree.{Kind, plain, strong, em, both, code, Run, r
 use Rattle.sheet.specs.Grammar as G
 use Rattle.sheet.specs.Grammar.{Many, stop, more, IsRun, is-run, Line, first-is, apart, first-letter, last-no-blank, neat}
 use Rattle.sheet.specs.Written.{escaped, sign, written-run, written-runs}
-use Rattle.sheet.specs.Sound.{and-inv}
+use Rattle.sheet.proofs.Sound.{and-inv}
 use Rattle.sheet.proofs.Facts.{false-true, Letter, a-letter, letter-is-not, letter-space, letter-digit}
 use Rattle.sheet.proofs.Solid.{space-first, runs-ended, escaped-first}
 

@@ -1,3 +1,5 @@
+pub mod Sound
+pub mod Complete
 pub mod Turns
 pub mod Tags
 pub mod TextOut

@@ -14,7 +14,7 @@ use Rattle.sheet.specs.Tree.{plain, strong, em, both, code, Run, run}
 use Rattle.sheet.specs.Grammar as G
 use Rattle.sheet.specs.Grammar.{NL, Many, stop, more, IsRun, is-run, Line, last-is, no-blank, apart, first-letter, last-no-blank, neat}
 use Rattle.sheet.specs.Written.{escaped, written-run, written-runs}
-use Rattle.sheet.specs.Sound.{and-inv}
+use Rattle.sheet.proofs.Sound.{and-inv}
 use Rattle.sheet.proofs.Turns.{Low}
 use Rattle.sheet.proofs.Tags.{st}
 use Rattle.sheet.proofs.TextOut.{begins, inline, line-start-is, shielded, held, not-newline}

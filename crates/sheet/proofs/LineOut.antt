@@ -13,7 +13,7 @@ use Rattle.html.specs.Page.{loop}
 use Rattle.sheet.specs.Tree.{Kind, plain, strong, em, both, code, Run, run}
 use Rattle.sheet.specs.Grammar.{Many, stop, more, Text, IsRun, is-run, first-is, last-is, no-blank, fits, touch, apart, first-letter, before, after}
 use Rattle.sheet.specs.Written.{escaped, written-run, written-runs}
-use Rattle.sheet.specs.Sound.{and-inv}
+use Rattle.sheet.proofs.Sound.{and-inv}
 use Rattle.sheet.proofs.Turns.{Low, low-front}
 use Rattle.sheet.proofs.Tags.{st}
 use Rattle.sheet.proofs.TextOut.{begins, inline, singly, hold, held, hold-spaced, put-text}

@@ -15,7 +15,7 @@ use Rattle.sheet.specs.Tree.{Kind, plain, strong, em, both, code, Run, r
 use Rattle.sheet.specs.Grammar as G
 use Rattle.sheet.specs.Grammar.{NL, Char, Many, stop, more, Text, IsRun, is-run, Line, ThenNL, IsItem, is-alone, is-with, ListOf, IsList, IsBlock, is-heading, is-para, IsPage, concat, first-is, apart, first-letter, last-no-blank, neat, before, after, opens, closes, opens-h, closes-h}
 use Rattle.sheet.specs.Written.{escaped, sign, written-run, written-runs, Row, item, place, lead, rows-from, rows, written-row, joined, written-block, written}
-use Rattle.sheet.specs.Sound.{and-inv}
+use Rattle.sheet.proofs.Sound.{and-inv}
 use Rattle.sheet.proofs.Source.{false-true}
 use Rattle.sheet.proofs.ListOut.{own-row, sub-rows, rows-cons}
 

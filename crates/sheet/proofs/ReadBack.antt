@@ -20,7 +20,7 @@ use Rattle.spans.specs.Spans.{Walk, at, push, cleared, flush, kept, code-step, 
 use Rattle.sheet.specs.Tree.{Kind, plain, strong, em, both, code, Run, run}
 use Rattle.sheet.specs.Grammar.{first-is, none-of, singles, edges, fits, touch, apart}
 use Rattle.sheet.specs.Written.{span, escaped, sign, written-run, written-runs}
-use Rattle.sheet.specs.Sound.{and-inv}
+use Rattle.sheet.proofs.Sound.{and-inv}
 use Rattle.sheet.proofs.Facts.{true-false, ordinary}
 
 -- ---- texts

@@ -18,7 +18,7 @@ use Rattle.sheet.specs.Reading.{many}
 use Rattle.sheet.specs.Tree.{plain, strong, em, both, code, run, ul, ol, end, leaf, node, Block, heading, para, list}
 use Rattle.sheet.specs.Grammar.{shown, singles, first-is, last-is, none-of, fits, apart, first-letter, last-no-blank, neat}
 use Rattle.sheet.specs.Reader.{own, char, text, kind, one-run, line, item, list-of, read-list, headed, read-heading, read-para, block, read-page}
-use Rattle.sheet.specs.Sound.{page-sound}
+use Rattle.sheet.proofs.Sound.{page-sound}
 use Rattle.sheet.specs.Written.{escaped, written-runs, joined, rows-from, rows, written, blocks-of}
 use Rattle.sheet.proofs.SheetReads.{sheet-reads}
 

@@ -14,7 +14,7 @@ use Rattle.html.specs.State.{State, push-str, line-start, spaced, marks, ends-w
 use Rattle.html.specs.Page.{words, loop}
 use Rattle.sheet.specs.Grammar.{none-of, last-is, no-blank}
 use Rattle.sheet.specs.Written.{escaped}
-use Rattle.sheet.specs.Sound.{and-inv}
+use Rattle.sheet.proofs.Sound.{and-inv}
 use Rattle.sheet.proofs.Turns.{Low, low-tail, low-front, loop-text}
 use Rattle.sheet.proofs.Tags.{st, loop-strong, loop-strong/, loop-em, loop-em/, loop-code, loop-code/}
 use Rattle.sheet.proofs.TextOut.{begins, inline, singly, hold, low-hold, held, hold-spaced, put-text, no-blank-end, put-nl}

@@ -14,7 +14,7 @@ use Rattle.records.specs.Format.{encode-text, encode-span, encode-spans, encode
 use Rattle.sheet.specs.Tree.{Kind, Run, run, Block}
 use Rattle.sheet.specs.Grammar.{fits, IsPage}
 use Rattle.sheet.specs.Written.{span, written-run, written-runs, Row, head, text, item, rows, lead, written-row, joined, written-block, written, marker, block-of, blocks-of}
-use Rattle.sheet.specs.Sound.{and-inv}
+use Rattle.sheet.proofs.Sound.{and-inv}
 use Rattle.sheet.proofs.ReadBack.{all-fit, filled-text}
 use Rattle.sheet.proofs.Fronts.{front-empty}
 use Rattle.sheet.proofs.EachLine.{Entries, Lines, a-heading, a-para, a-list, Each}

@@ -18,7 +18,7 @@ use Rattle.records.specs.Format.{non-empty, is-bullet, digits-stop, is-ordinal,
 use Rattle.sheet.specs.Tree.{Kind, plain, strong, em, both, code, Run, run, Block}
 use Rattle.sheet.specs.Grammar.{fits, Line, IsPage}
 use Rattle.sheet.specs.Written.{span, written-run, written-runs, Row, item, rows, written-row, joined, written-block, written, marker, block-of, blocks-of}
-use Rattle.sheet.specs.Sound.{and-inv}
+use Rattle.sheet.proofs.Sound.{and-inv}
 use Rattle.sheet.proofs.Facts.{false-true}
 use Rattle.sheet.proofs.AllChars.{decimal-all, decimal-some}
 use Rattle.sheet.proofs.ReadBack.{all-fit, filled-text}

@@ -15,7 +15,7 @@ use Rattle.sheet.specs.Tree.{plain, strong, em, both, code, Run, run}
 use Rattle.sheet.specs.Grammar as G
 use Rattle.sheet.specs.Grammar.{shown, Char, Many, stop, more, concat, last-is, no-blank, last-no-blank, IsRun, is-run}
 use Rattle.sheet.specs.Written.{escaped, sign, written-run, written-runs}
-use Rattle.sheet.specs.Sound.{and-inv}
+use Rattle.sheet.proofs.Sound.{and-inv}
 use Rattle.sheet.proofs.AllChars.{all-append, all-weaker, Marks, all-run}
 use Rattle.sheet.proofs.Facts.{false-true, a-letter, letter-special, no-space}
 

@@ -16,7 +16,7 @@ use Rattle.html.specs.State.{special}
 use Rattle.sheet.specs.Tree.{Kind, plain, strong, em, both, code}
 use Rattle.sheet.specs.Grammar as G
 use Rattle.sheet.specs.Grammar.{Char, Many, stop, more, Text, shown, none-of, singles, first-is, last-is, no-blank, fits, concat}
-use Rattle.sheet.specs.Sound.{and-inv}
+use Rattle.sheet.proofs.Sound.{and-inv}
 use Rattle.sheet.proofs.TextOut.{singly}
 use Rattle.sheet.proofs.RunOut.{Raw}
 

@@ -19,8 +19,8 @@ use Rattle.sheet.specs.Grammar.{IsPage}
 use Rattle.sheet.specs.Reader.{read-page}
 use Rattle.sheet.specs.Written.{written}
 use Rattle.sheet.specs.Sheet.{IsSheet}
-use Rattle.sheet.specs.Sound.{bind-inv, guard-inv, page-sound}
-use Rattle.sheet.specs.Complete.{page-complete}
+use Rattle.sheet.proofs.Sound.{bind-inv, guard-inv, page-sound}
+use Rattle.sheet.proofs.Complete.{page-complete}
 use Rattle.sheet.specs.Calls.{small, sheet, no-utf8, no-sheet, yes-sheet, sheet-call}
 
 -- a page is a sheet, and these are the bytes and characters of its written form

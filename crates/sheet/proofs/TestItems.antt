@@ -18,7 +18,7 @@ use Rattle.sheet.specs.Written.{place, rows-from}
 use Rattle.sheet.specs.Weight.{weight, alike, added}
 use Rattle.sheet.specs.Says.{from, Says, Tagged, Skipped}
 use Rattle.sheet.specs.Forms.{led-rows, item-form, list-form, mark-of, Begun}
-use Rattle.sheet.specs.Sound.{none-some, bind-inv, guard-inv, alt-inv}
+use Rattle.sheet.proofs.Sound.{none-some, bind-inv, guard-inv, alt-inv}
 use Rattle.sheet.specs.declared.count.Count.{Count}
 use Rattle.sheet.specs.declared.count.Read.the-variants.{At}
 use Rattle.sheet.specs.declared.list.Opening.{Opening}

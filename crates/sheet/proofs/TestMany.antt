@@ -12,7 +12,7 @@ use lib.Seq.{append-snoc}
 use Rattle.text.specs.Words.{case}
 use Rattle.sheet.specs.Reading.{strip, many}
 use Rattle.sheet.specs.Reader.{Answer, nl?, then-nl}
-use Rattle.sheet.specs.Sound.{none-some, bind-inv, guard-inv}
+use Rattle.sheet.proofs.Sound.{none-some, bind-inv, guard-inv}
 
 module _ {A : Type 0} where
   -- what is read leaves less

@@ -20,7 +20,7 @@ use Rattle.sheet.specs.Tree.{Run, run}
 use Rattle.sheet.specs.Grammar.{touch, before, after, first-is, last-is, no-blank, singles, fits}
 use Rattle.sheet.specs.Reader.{Answer, char, text, opening, kind, one-run}
 use Rattle.sheet.specs.Says.{from, Tagged}
-use Rattle.sheet.specs.Sound.{bind-inv, guard-inv, alt-inv}
+use Rattle.sheet.proofs.Sound.{bind-inv, guard-inv, alt-inv}
 use Rattle.sheet.specs.Facts.{first-of, last-of, gist, Scanned, kind-of, coded, is-plain, has-em, suits, Opened, Ran}
 use Rattle.sheet.specs.declared.line.Kind.{Kind}
 use Rattle.sheet.specs.declared.line.Kind.the-variants.{Plain, Strong, Em, Both, Code}

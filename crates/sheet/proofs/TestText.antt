@@ -20,7 +20,7 @@ use Rattle.sheet.specs.Grammar.{shown}
 use Rattle.sheet.specs.Reader.{Answer, own, means, char, text}
 use Rattle.sheet.specs.Says.{from}
 use Rattle.sheet.specs.Facts.{referred, Spelt}
-use Rattle.sheet.specs.Sound.{none-some, bind-inv, guard-inv, alt-inv}
+use Rattle.sheet.proofs.Sound.{none-some, bind-inv, guard-inv, alt-inv}
 use Rattle.sheet.specs.declared.line.Glyph.{Glyph}
 use Rattle.sheet.specs.declared.line.Glyph.the-variants as G
 use Rattle.sheet.proofs.TestMany.{Shrinks, every-more, every-stop, strip-shrinks}

@@ -12,7 +12,7 @@ use Rattle.text.specs.Chars.{is-space}
 use Rattle.html.specs.State.{State, with-out, line-start, spaced, special, ends-with-digit, escape, put, next, put-all}
 use Rattle.sheet.specs.Grammar.{last-is, no-blank}
 use Rattle.sheet.specs.Written.{escaped}
-use Rattle.sheet.specs.Sound.{and-inv}
+use Rattle.sheet.proofs.Sound.{and-inv}
 use Rattle.sheet.proofs.Turns.{Low, low-tail}
 use Rattle.sheet.proofs.Tags.{st}
 

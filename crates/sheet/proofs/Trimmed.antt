@@ -14,7 +14,7 @@ use Rattle.sheet.specs.Tree.{plain, strong, em, both, code, Run, run, Ma
 use Rattle.sheet.specs.Grammar as G
 use Rattle.sheet.specs.Grammar.{Many, stop, more, IsRun, is-run, Line, ThenNL, IsList, IsBlock, is-heading, is-para, first-is, apart, first-letter, last-no-blank, neat}
 use Rattle.sheet.specs.Written.{escaped, written-run, written-runs, Row, item, place, rows-from, rows, written-row, joined, written-block, written}
-use Rattle.sheet.specs.Sound.{and-inv}
+use Rattle.sheet.proofs.Sound.{and-inv}
 use Rattle.sheet.proofs.Source.{false-true, a-letter, letter-space, letter-special}
 use Rattle.sheet.proofs.LineEnd.{space-first, Ended}
 use Rattle.sheet.proofs.PageOut.{gap, full-gap, block-out, wr, wr-written, wr-ended, after-first, written-first}

@@ -18,7 +18,7 @@ use Rattle.reference.specs.Unescape.{unescape}
 use Rattle.html.specs.State.{State, text, put-all}
 use Rattle.html.specs.Page.{Turn, read, refused, words, comment, a-tag, markup, turn, tag-read, inside, on-turn, loop}
 use Rattle.sheet.specs.Grammar.{none-of}
-use Rattle.sheet.specs.Sound.{and-inv}
+use Rattle.sheet.proofs.Sound.{and-inv}
 
 -- the loop goes on
 unfoldable pub Low : List ℕ → Type 0

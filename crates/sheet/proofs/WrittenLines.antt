@@ -13,7 +13,7 @@ use Rattle.sheet.specs.Tree.{Run, alone, with, items, Block}
 use Rattle.sheet.specs.Grammar as G
 use Rattle.sheet.specs.Grammar.{Many, IsRun, is-run, stop, more, Line}
 use Rattle.sheet.specs.Written.{span, written-runs, Row, head, text, item, place, rows-from, rows, lead, written-row, joined, written-block, written}
-use Rattle.sheet.specs.Sound.{and-inv}
+use Rattle.sheet.proofs.Sound.{and-inv}
 use Rattle.sheet.proofs.Facts.{false-true}
 use Rattle.sheet.proofs.AllChars.{all-head, all-item}
 use Rattle.sheet.proofs.Solid.{inline, inline-marks, inline-runs}

@@ -13,7 +13,7 @@ use Rattle.html.specs.State.{special}
 use Rattle.sheet.specs.Tree.{Kind, Run, run, Block}
 use Rattle.sheet.specs.Grammar.{fits}
 use Rattle.sheet.specs.Written.{escaped, sign, written-run, written-runs, Row, head, item, lead, written-row, joined, written-block, written}
-use Rattle.sheet.specs.Sound.{and-inv}
+use Rattle.sheet.proofs.Sound.{and-inv}
 use Rattle.sheet.proofs.Facts.{false-true}
 use Rattle.sheet.proofs.ReadBack.{all-fit, filled-text}
 

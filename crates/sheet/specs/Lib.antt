@@ -3,8 +3,6 @@ pub mod Tree
 pub mod Grammar
 pub mod Reader
 pub mod Written
-pub mod Sound
-pub mod Complete
 pub mod Sheet
 pub mod Weight
 pub mod Says

@@ -17,7 +17,7 @@ use Rattle.sheet.specs.Tree.{Kind, plain, strong, em, both, code, Run, r
 use Rattle.sheet.specs.Grammar as G
 use Rattle.sheet.specs.Grammar.{NL, Char, Many, stop, more, Text, IsRun, is-run, Line, ThenNL, IsItem, is-alone, is-with, ListOf, IsList, IsBlock, is-heading, is-para, IsPage, shown, singles, first-is, fits, apart, touch, first-letter, last-no-blank, neat, concat, opens, closes, opens-h, closes-h, before, after}
 use Rattle.sheet.specs.Reader.{Answer, nl?, own, means, char, text, opening, kind, one-run, line, then-nl, with-list, item, some-items, marked, list-of, read-list, digit, headed, read-heading, read-para, block, at-end, read-page}
-use Rattle.sheet.specs.Sound.{none-some, bind-inv, guard-inv, and-inv, alt-inv}
+use Rattle.sheet.proofs.Sound.{none-some, bind-inv, guard-inv, and-inv, alt-inv}
 
 false-true : {A : Type 0} → false ≡ true → A
 false-true e = let z : _≡_ {A = ℕ} 0 1 = cc in absurd (omega arith)
