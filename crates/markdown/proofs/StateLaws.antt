@@ -59,15 +59,15 @@ unfolding text-of
 text-none md work copied from to e = rw (e, part-none (source copied md work) to) chars-nil
 
 -- ---- how long a record is
+pub count-small : (n : ℕ) → length (encode-count n) ≤ 4
+count-small zero = omega arith
+count-small (suc n) = omega arith
+
 counted-small : (text : List ℕ) → length (counted (spans (chars text))) ≤ 4 + 6 * length text
 counted-small text =
     let n = length-append (encode-count (length (spans (chars text)))) (encode-spans (spans (chars text))) in
     let c : length (encode-count (length (spans (chars text)))) ≤ 4 = count-small (length (spans (chars text))) in
     omega (arith, spans-small (chars text), size-chars text)
-  where
-    count-small : (n : ℕ) → length (encode-count n) ≤ 4
-    count-small zero = omega arith
-    count-small (suc n) = omega arith
 
 pub block-small : (k : Kind) (text : List ℕ) → length (encode-block (record { kind = k; spans = spans (chars text) })) ≤ 5 + length (encode-kind k) + 6 * length text
 block-small k text = omega (arith, block-length (record { kind = k; spans = spans (chars text) }), counted-small text)

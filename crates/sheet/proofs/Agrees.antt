@@ -1,18 +1,16 @@
 -- Demand 3: for a page that is a sheet, converting gives its written form, and reading that gives exactly the blocks of its tree.
 -- Assumes nothing.
-use Prim.Native.Nat.{ℕ, _+_, _*_, _≤_, _<_}
+use Prim.Native.Nat.{ℕ, _+_, _*_, _≤_}
 use native.Mathlib.Omega.{arith}
-use mathlib.Core.Path.{_≡_, refl, sym, _∙_, ap}
+use mathlib.Core.Path.{_≡_, sym, _∙_, ap}
 use mathlib.Core.List.{List}
-use mathlib.Core.Option.{some}
 use borrow.Author.Tests.{le-ltb}
 use lib.ListN.{length}
 use Rattle.text.specs.Utf8.{size, encode}
-use Rattle.text.specs.Outcome.{Outcome, wrote}
+use Rattle.text.specs.Outcome.{wrote}
 use Rattle.text.proofs.Laws.{decode-iff, decode-encode, size-encode}
 use Rattle.html.specs.Calls.{html-to-markdown-call}
 use Rattle.records.specs.Format.{encode-blocks}
-use Rattle.markdown.specs.Blocks.{blocks}
 use Rattle.markdown.specs.Calls.{recorded, with-buffers, blocks-call}
 use Rattle.sheet.specs.Tree.{Block}
 use Rattle.sheet.specs.Written.{written, blocks-of}

@@ -5,7 +5,6 @@ use Prim.Native.String.{String}
 use mathlib.Core.Path.{_≡_, refl}
 use mathlib.Core.Bool.{Bool, true, false}
 use mathlib.Core.List.{List, [], _∷_, map}
-use mathlib.Core.Option.{Option, none, some}
 use Rattle.text.specs.Words.{case, str, index, take-while, drop-while, trim-end-matches}
 use Rattle.text.specs.Chars.{is-space, is-control, is-scalar}
 use Rattle.text.specs.Utf8.{size, utf8, encode, starts3, starts4, char-of, char, scan, chars, is-utf8, decode}

@@ -1,6 +1,6 @@
 -- What the sheet test says yes to, by the grammar of document 01.
 -- Assumes nothing.
-use Prim.Native.Nat.{ℕ, _≤_, _<_}
+use Prim.Native.Nat.{ℕ}
 use native.Mathlib.Omega.{arith}
 use mathlib.Core.Path.{_≡_, refl, sym, _∙_, ap}
 use mathlib.Core.Bool.{true}
@@ -19,7 +19,8 @@ use Rattle.sheet.specs.Grammar.{IsPage}
 use Rattle.sheet.specs.Reader.{read-page}
 use Rattle.sheet.specs.Written.{written}
 use Rattle.sheet.specs.Sheet.{IsSheet}
-use Rattle.sheet.proofs.Sound.{bind-inv, guard-inv, page-sound}
+use Rattle.sheet.proofs.ReadingLaws.{bind-inv, guard-inv}
+use Rattle.sheet.proofs.Sound.{page-sound}
 use Rattle.sheet.proofs.Complete.{page-complete}
 use Rattle.sheet.specs.Calls.{small, sheet, no-utf8, no-sheet, yes-sheet, sheet-call}
 

@@ -1,6 +1,5 @@
 -- The sheet test on pages written out: the definition computes document 01's answers.
 -- Assumes nothing.
-use Prim.Native.Nat.{ℕ}
 use Prim.Native.String.{String}
 use mathlib.Core.Path.{_≡_, refl}
 use mathlib.Core.List.{List, [], _∷_, map}

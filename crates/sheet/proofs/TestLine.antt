@@ -26,11 +26,13 @@ use Rattle.sheet.specs.declared.line.Kind.{Kind}
 use Rattle.sheet.specs.declared.line.Kind.the-variants.{Strong}
 use Rattle.sheet.specs.declared.line.Gist.{Gist}
 use Rattle.sheet.specs.declared.line.Runs.{Runs}
-use Rattle.sheet.proofs.TestTags.{ascii}
-use Rattle.sheet.proofs.TestCount.{counts, size-ascii, weight-append}
+use Rattle.sheet.proofs.AllChars.{all-sign}
+use Rattle.sheet.proofs.TestTags.{low}
+use Rattle.sheet.proofs.TestCount.{low-marks, counts, size-ascii, weight-append}
 use Rattle.sheet.proofs.TestMany.{every, Read-to, to-none, to-more, to-stop}
 use Rattle.sheet.proofs.TestSays.{answers, refuses}
-use Rattle.sheet.proofs.TestRuns.{kind-coded, last-blank, first-letter-of, run-shrinks, Run-is}
+use Rattle.sheet.proofs.TestRuns.{kind-coded, last-blank, first-letter-of, Run-is}
+use Rattle.sheet.proofs.Shrinks.{run-shrinks}
 
 -- ---- no run
 pub runs-nil : record { count = record { bytes = 0; chars = 0 }; last = Strong; any = false; apart = true; letter = false; solid = false } ≡ runs-of []
@@ -38,13 +40,6 @@ unfolding runs-of apart first-letter last-no-blank written-runs weight size
 runs-nil = refl
 
 -- ---- the written form of a run
-sign-ascii : (k : T.Kind) → ascii (sign k) ≡ true
-sign-ascii T.plain = refl
-sign-ascii T.strong = refl
-sign-ascii T.em = refl
-sign-ascii T.both = refl
-sign-ascii T.code = refl
-
 pub sign-short : (k : T.Kind) → length (sign k) ≤ 3
 sign-short T.plain = omega arith
 sign-short T.strong = omega arith
@@ -55,7 +50,7 @@ sign-short T.code = omega arith
 weight-run : (k : T.Kind) (t : List ℕ) → weight (written-run (run k t)) ≡ added (alike (2 * length (sign k))) (weight (escaped t))
 unfolding weight
 weight-run k t =
-    let s = size-ascii (sign k) (sign-ascii k) in
+    let s = size-ascii (sign k) (all-sign low low-marks k) in
     counts (omega (arith, size-append (sign k) (escaped t ++ sign k), size-append (escaped t) (sign k)))
     (omega (arith, length-append (sign k) (escaped t ++ sign k), length-append (escaped t) (sign k)))
 

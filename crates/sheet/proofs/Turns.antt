@@ -14,11 +14,11 @@ use lib.Seq.{take-append-seam, drop-append-seam}
 use Rattle.text.specs.Words.{case, is, starts, index, find}
 use Rattle.text.specs.Utf8.{size}
 use Rattle.text.specs.Trim.{trim}
+use Rattle.text.proofs.Tests.{and-true}
 use Rattle.reference.specs.Unescape.{unescape}
 use Rattle.html.specs.State.{State, text, put-all}
 use Rattle.html.specs.Page.{Turn, read, refused, words, comment, a-tag, markup, turn, tag-read, inside, on-turn, loop}
 use Rattle.sheet.specs.Grammar.{none-of}
-use Rattle.sheet.proofs.Sound.{and-inv}
 
 -- the loop goes on
 unfoldable pub Low : List ℕ → Type 0
@@ -48,7 +48,7 @@ pub find-first : (b : ℕ) (u s : List ℕ) → eqb b b ≡ true → none-of (λ
 unfolding index none-of
 find-first b [] s r e = rw r
 find-first b (a ∷ u) s r e =
-    let f = and-inv (not (eqb a b)) (none-of (λ a. eqb a b) u) e in
+    let f = and-true (not (eqb a b)) (none-of (λ a. eqb a b) u) e in
     rw (not-true (eqb a b) (f .0), find-first b u s r (f .1))
 
 turn-text : (u s : List ℕ) (c : State) → none-of (is "<") u ≡ true → turn (u ++ (60 ∷ s)) c ≡ markup (length u) (60 ∷ s) (words u c)

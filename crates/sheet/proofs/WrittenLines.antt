@@ -7,18 +7,19 @@ use mathlib.Core.List.{List, [], _∷_, _++_, map, append-assoc}
 use borrow.Author.Tests.{not-true}
 use lib.Dec.{eqb}
 use Rattle.text.specs.Words.{str, repeat, all, is-empty}
+use Rattle.text.proofs.Tests.{and-true}
 use Rattle.spans.specs.Spans.{spans}
 use Rattle.markdown.specs.Blocks.{before-lines, lines}
 use Rattle.sheet.specs.Tree.{Run, alone, with, items, Block}
 use Rattle.sheet.specs.Grammar as G
 use Rattle.sheet.specs.Grammar.{Many, IsRun, is-run, stop, more, Line}
 use Rattle.sheet.specs.Written.{span, written-runs, Row, head, text, item, place, rows-from, rows, lead, written-row, joined, written-block, written}
-use Rattle.sheet.proofs.Sound.{and-inv}
 use Rattle.sheet.proofs.Facts.{false-true}
 use Rattle.sheet.proofs.AllChars.{all-head, all-item}
 use Rattle.sheet.proofs.Solid.{inline, inline-marks, inline-runs}
 use Rattle.sheet.proofs.ReadBack.{all-fit, line-read}
-use Rattle.sheet.proofs.Fronts.{Good, good-of, neat-of, front-empty}
+use Rattle.sheet.proofs.Conditions.{neat-of}
+use Rattle.sheet.proofs.Fronts.{Good, good-of, front-empty}
 use Rattle.sheet.proofs.PageRead.{filled-append}
 use Rattle.sheet.proofs.EachLine.{Entries, Lines, a-heading, a-para, a-list, Each}
 use Rattle.sheet.proofs.EachLine as E
@@ -49,14 +50,14 @@ lines-nl : (s t : List ℕ) → all inline s ≡ true → lines (s ++ (10 ∷ t)
 unfolding lines
 lines-nl [] t e = refl
 lines-nl (c ∷ s) t e =
-    let f = and-inv (inline c) (all inline s) e in
+    let f = and-true (inline c) (all inline s) e in
     rw (not-true (eqb c 10) (f .0), lines-nl s t (f .1))
 
 lines-last : (a : ℕ) (s : List ℕ) → all inline (a ∷ s) ≡ true → lines (a ∷ s) ≡ (a ∷ s) ∷ []
 unfolding lines
-lines-last a [] e = rw (not-true (eqb a 10) (and-inv (inline a) true e .0))
+lines-last a [] e = rw (not-true (eqb a 10) (and-true (inline a) true e .0))
 lines-last a (b ∷ s) e =
-    let f = and-inv (inline a) (all inline (b ∷ s)) e in
+    let f = and-true (inline a) (all inline (b ∷ s)) e in
     ap (λ (x : Bool). cond x ([] ∷ lines (b ∷ s)) (before-lines a (lines (b ∷ s)))) (not-true (eqb a 10) (f .0))
     ∙ ap (before-lines a) (lines-last b s (f .1))
 

@@ -1,8 +1,7 @@
 -- The grammar of a sheet, document 01's section line by line, on characters. `X s t r`: the characters s begin with an X, whose tree is t, and r follows it.
 use Prim.Native.Nat.{ℕ, zero, suc, _+_, _≤_}
 use mathlib.Core.Path.{_≡_}
-use mathlib.Core.Bool.{Bool, true, false, not, _&&_, _||_}
-use mathlib.Core.Option.{Option, none, some}
+use mathlib.Core.Bool.{Bool, true, false, not, _&&_}
 use mathlib.Core.List.{List, [], _∷_, _++_}
 use lib.Dec.{eqb}
 use Rattle.text.specs.Words.{str}

@@ -1,16 +1,14 @@
 -- The reader: it computes the tree of a sheet. Each function reads one thing of `Grammar` at the front of the bytes, and answers it with the bytes after it.
 use Prim.Native.Nat.{ℕ, zero, suc, _-_}
-use mathlib.Core.Bool.{Bool, true, false}
 use mathlib.Core.Option.{Option, none, some}
-use mathlib.Core.List.{List, [], _∷_, _++_}
-use lib.Dec.{eqb}
+use mathlib.Core.List.{List, [], _∷_}
 use Prim.Native.String.{String}
 use lib.ListN.{length}
 use Rattle.text.specs.Words.{str, _>>=_, case}
 use Rattle.text.specs.Chars.{within}
 use Rattle.sheet.specs.Reading.{guard, _<|>_, strip, many}
 use Rattle.sheet.specs.Tree.{Kind, plain, strong, em, both, code, Run, run, Mark, ul, ol, Items, Item, alone, with, items, Block, heading, para, list}
-use Rattle.sheet.specs.Grammar.{opens, closes, opens-h, closes-h, before, after, shown, concat, fits, neat}
+use Rattle.sheet.specs.Grammar.{opens, closes, closes-h, before, after, shown, concat, fits, neat}
 
 -- an answer, and the bytes after it
 abbrev pub Answer : Type 0 → Type 0

@@ -73,7 +73,7 @@ weigh-bytes (c ∷ s) = ap (λ (n : ℕ). length (utf8 c) + n) (weigh-bytes s)
 some-bytes : (c : ℕ) → 1 ≤ bytes c
 some-bytes c = utf8-size c .0
 
-text-long : (t : List ℕ) → length (encode-text t) ≤ 4 + size t
+pub text-long : (t : List ℕ) → length (encode-text t) ≤ 4 + size t
 text-long [] = omega arith
 text-long (c ∷ t) = omega (arith, size-encode (c ∷ t))
 
