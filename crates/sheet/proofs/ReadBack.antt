@@ -31,7 +31,7 @@ unfolding step
 step-kept w b s e = let o = ordinary b e in rw (o .no-backslash, o .no-tick, o .no-star, o .no-bracket, o .no-bang)
 
 no-escape : (u : List ℕ) → none-of special u ≡ true → escaped u ≡ u
-unfolding none-of escaped
+unfolding escaped
 no-escape [] e = refl
 no-escape (b ∷ u) e =
     let f = and-true (not (special b)) (none-of special u) e in
@@ -177,7 +177,7 @@ module _ (inner : List ℕ → List Span) where
 
   -- ---- code
   find-tick : (u s : List ℕ) → none-of special u ≡ true → find "`" (u ++ (96 ∷ s)) ≡ some (length u)
-  unfolding index none-of
+  unfolding index
   find-tick [] s e = refl
   find-tick (b ∷ u) s e =
       let f = and-true (not (special b)) (none-of special u) e in

@@ -31,7 +31,6 @@ pub data Tail : List ℕ → Type 0 where
   nl-tag : (s : List ℕ) → Tail (10 ∷ 60 ∷ s)
 
 no-tag-nl : (u : List ℕ) → none-of (is "<") u ≡ true → none-of (is "<") (u ++ (10 ∷ [])) ≡ true
-unfolding none-of
 no-tag-nl [] e = refl
 no-tag-nl (a ∷ u) e = let f = and-true (not (eqb a 60)) (none-of (is "<") u) e in rw (f .0) (no-tag-nl u (f .1))
 
@@ -45,7 +44,6 @@ unfolding words text unescape unescaped put-all next is-space
 nl-words l o b = refl
 
 pub nl-raw : none-of (is "<") (10 ∷ []) ≡ true
-unfolding none-of
 nl-raw = refl
 
 -- text before a tag, that takes the state c to d

@@ -54,27 +54,26 @@ source-by {r = r} p q h z =
     }
 
 stands-lt : Stands (str "&lt;") (str "<")
-unfolding none-of unescape unescaped reference named names index size utf8
+unfolding unescape unescaped reference named names index size utf8
 stands-lt = record { untagged = λ u e. e; replaced = λ u. refl }
 
 stands-amp : Stands (str "&amp;") (str "&")
-unfolding none-of unescape unescaped reference named names index size utf8
+unfolding unescape unescaped reference named names index size utf8
 stands-amp = record { untagged = λ u e. e; replaced = λ u. refl }
 
 stands-gt : Stands (str "&gt;") (str ">")
-unfolding none-of unescape unescaped reference named names index size utf8
+unfolding unescape unescaped reference named names index size utf8
 stands-gt = record { untagged = λ u e. e; replaced = λ u. refl }
 
 stands-quot : Stands (str "&quot;") (str "\"")
-unfolding none-of unescape unescaped reference named names index size utf8
+unfolding unescape unescaped reference named names index size utf8
 stands-quot = record { untagged = λ u e. e; replaced = λ u. refl }
 
 stands-blank : Stands (str " ") (str " ")
-unfolding none-of unescape unescaped
+unfolding unescape unescaped
 stands-blank = record { untagged = λ u e. e; replaced = λ u. refl }
 
 stands-own : (c : ℕ) → Shown c → Stands (c ∷ []) (c ∷ [])
-unfolding none-of
 stands-own c h = record { untagged = λ u e. rw (h .no-tag) e; replaced = λ u. unescape-own c u h }
 
 source-more : {s q m t r : List ℕ} → Char s q m → Source m t r → Source s (q ++ t) r
@@ -86,7 +85,7 @@ source-more G.blank z = source-by (str " ") (str " ") stands-blank z
 source-more (G.own c h) z = source-by (c ∷ []) (c ∷ []) (stands-own c (a-shown c h)) z
 
 source-of : {s r : List ℕ} {qs : List (List ℕ)} → Many Char s qs r → Source s (concat qs) r
-unfolding unescape unescaped none-of
+unfolding unescape unescaped
 source-of stop = record { raw = []; is-raw = refl; source = record { no-tag = refl; means = refl; means-nl = refl } }
 source-of (more c t) = source-more c (source-of t)
 

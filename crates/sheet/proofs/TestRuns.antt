@@ -3,7 +3,7 @@
 use Prim.Native.Nat.{ℕ, _+_, _≤_, _<_}
 use native.Mathlib.Omega.{arith}
 use mathlib.Core.Path.{_≡_, refl, sym, _∙_, ap, subst}
-use mathlib.Core.Bool.{Bool, true, false, not, _&&_, _||_}
+use mathlib.Core.Bool.{Bool, true, false, not}
 use mathlib.Core.Option.{none, some}
 use mathlib.Core.List.{List, [], _∷_}
 use mathlib.Core.Logic.{⊎-elim}
@@ -17,10 +17,10 @@ use Rattle.text.proofs.Laws.{advance-end}
 use Rattle.sheet.specs.Reading.{strip, many}
 use Rattle.sheet.specs.Tree as T
 use Rattle.sheet.specs.Tree.{Run, run}
-use Rattle.sheet.specs.Grammar.{touch, before, after, first-is, last-is, no-blank, singles, fits}
+use Rattle.sheet.specs.Grammar.{before, after, first-is, last-is, no-blank, singles, fits}
 use Rattle.sheet.specs.Reader.{Answer, text, kind, one-run}
 use Rattle.sheet.specs.Says.{from, Tagged}
-use Rattle.sheet.specs.Facts.{first-of, last-of, gist, Scanned, kind-of, coded, is-plain, has-em, suits, Opened, Ran}
+use Rattle.sheet.specs.Keeps.{first-of, last-of, gist, Scanned, kind-of, coded, suits, Opened, Ran}
 use Rattle.sheet.specs.declared.line.Kind.{Kind}
 use Rattle.sheet.specs.declared.line.Kind.the-variants.{Plain, Strong, Em, Both, Code}
 use Rattle.sheet.specs.declared.line.Gist.{Gist}
@@ -29,26 +29,6 @@ use Rattle.sheet.specs.declared.line.OneRun.{OneRun}
 use Rattle.sheet.specs.declared.line.OneRun.the-variants as R
 use Rattle.sheet.proofs.TestTags.{Stands, is-tag}
 use Rattle.sheet.proofs.Shrinks.{run-shrinks}
-
--- ---- two runs that must not touch
-pub touching : (k l : T.Kind) → is-plain k && is-plain l || has-em k && has-em l ≡ touch k l
-touching T.plain T.plain = refl
-touching T.plain T.strong = refl
-touching T.plain T.em = refl
-touching T.plain T.both = refl
-touching T.plain T.code = refl
-touching T.strong l = refl
-touching T.em T.plain = refl
-touching T.em T.strong = refl
-touching T.em T.em = refl
-touching T.em T.both = refl
-touching T.em T.code = refl
-touching T.both T.plain = refl
-touching T.both T.strong = refl
-touching T.both T.em = refl
-touching T.both T.both = refl
-touching T.both T.code = refl
-touching T.code l = refl
 
 -- ---- the kind of a run
 module _ (page : List ℕ) (at : ℕ) where

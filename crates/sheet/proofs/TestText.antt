@@ -19,7 +19,7 @@ use Rattle.sheet.specs.Reading.{strip}
 use Rattle.sheet.specs.Grammar.{shown}
 use Rattle.sheet.specs.Reader.{Answer, own, char, text}
 use Rattle.sheet.specs.Says.{from}
-use Rattle.sheet.specs.Facts.{referred, Spelt}
+use Rattle.sheet.specs.Keeps.{referred, Spelt}
 use Rattle.sheet.specs.declared.line.Glyph.{Glyph}
 use Rattle.sheet.specs.declared.line.Glyph.the-variants as G
 use Rattle.sheet.proofs.Shrinks.{char-shrinks}

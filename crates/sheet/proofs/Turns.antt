@@ -45,7 +45,7 @@ loop-stop (x ∷ s) c h = rw (le-ltb (size (c .out)) 16000 h)
 -- text before a tag
 
 pub find-first : (b : ℕ) (u s : List ℕ) → eqb b b ≡ true → none-of (λ a. eqb a b) u ≡ true → index (b ∷ []) (u ++ (b ∷ s)) ≡ some (length u)
-unfolding index none-of
+unfolding index
 find-first b [] s r e = rw r
 find-first b (a ∷ u) s r e =
     let f = and-true (not (eqb a b)) (none-of (λ a. eqb a b) u) e in
@@ -153,7 +153,6 @@ words-nil c = go (c .skip)
     go (some x) = refl
 
 pub turn-tag : (s : List ℕ) (c : State) → turn (60 ∷ s) c ≡ markup 0 (60 ∷ s) c
-unfolding none-of
 turn-tag s c = turn-text [] s c refl ∙ ap (markup 0 (60 ∷ s)) (words-nil c)
 
 go-on : (x : ℕ) (u s : List ℕ) (t : Turn) → Forward t → on-turn (moved (length (x ∷ u)) t) (λ n d. loop (n - 1) (u ++ (60 ∷ s)) d) ≡ on-turn t (λ n d. loop (n - 1) s d)

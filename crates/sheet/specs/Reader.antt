@@ -1,4 +1,6 @@
--- The reader: it computes the tree of a sheet. Each function reads one thing of `Grammar` at the front of the bytes, and answers it with the bytes after it.
+-- The reader: it computes the tree of a sheet. Each function reads one thing of `Grammar` at the front of the characters, and answers it with the
+-- characters after it; `page-sound` and `page-complete` (proofs/) show that it answers just what the grammar says.
+-- Assumes nothing.
 use Prim.Native.Nat.{ℕ, zero, suc, _-_}
 use mathlib.Core.Option.{Option, none, some}
 use mathlib.Core.List.{List, [], _∷_}
@@ -10,7 +12,7 @@ use Rattle.sheet.specs.Reading.{guard, _<|>_, strip, many}
 use Rattle.sheet.specs.Tree.{Kind, plain, strong, em, both, code, Run, run, Mark, ul, ol, Items, Item, alone, with, items, Block, heading, para, list}
 use Rattle.sheet.specs.Grammar.{opens, closes, closes-h, before, after, shown, concat, fits, neat}
 
--- an answer, and the bytes after it
+-- an answer, and the characters after it
 abbrev pub Answer : Type 0 → Type 0
 Answer A = Option (A × List ℕ)
 
