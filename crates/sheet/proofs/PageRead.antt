@@ -16,6 +16,7 @@ use Rattle.text.proofs.Tests.{within-true, within-is, and-true}
 use Rattle.records.specs.Blocks.{Block, Heading, Paragraph, Item}
 use Rattle.spans.specs.Spans.{spans}
 use Rattle.markdown.specs.Blocks.{Marked, marker-at, list-marker, Reader, reader, flush, heading, paragraph, read-text, read-line}
+use Rattle.markdown.proofs.Basics.{not-empty}
 use Rattle.sheet.proofs.Facts.{false-true, visible}
 use Rattle.sheet.proofs.LineEnd.{space-first, solid-drop}
 use Rattle.sheet.proofs.Fronts.{first-append, trim-start-is, trim-id, front-hash, front-bar, front-blank, front-empty, front-solid, front-marker, bulleted, no-rule, Good}
@@ -40,10 +41,6 @@ pub filled-append : (a b : List ℕ) → is-empty b ≡ false → is-empty (a ++
 filled-append [] b e = e
 filled-append (x ∷ a) b e = refl
 
-pub some-empty : (x : List ℕ) → 1 ≤ length x → is-empty x ≡ false
-some-empty [] h = absurd (omega arith)
-some-empty (a ∷ x) h = refl
-
 pub empty-some : (x : List ℕ) → is-empty x ≡ false → 1 ≤ length x
 empty-some [] e = false-true (sym e)
 empty-some (a ∷ x) e = omega arith
@@ -51,7 +48,7 @@ empty-some (a ∷ x) e = omega arith
 last-append : (a w : List ℕ) → Good w → space-first (reverse (a ++ w)) ≡ false
 last-append a w g =
     ap space-first (reverse-append a w)
-    ∙ first-append (reverse w) (reverse a) (some-empty (reverse w) (omega (arith, length-reverse w, empty-some w (front-empty (g .front)))))
+    ∙ first-append (reverse w) (reverse a) (not-empty (reverse w) (omega (arith, length-reverse w, empty-some w (front-empty (g .front)))))
     ∙ g .last
 
 -- ---- headings

@@ -18,6 +18,7 @@ use Rattle.html.specs.State.{special}
 use Rattle.records.specs.Blocks.{Span}
 use Rattle.spans.specs.Spans as S
 use Rattle.spans.specs.Spans.{Walk, at, push, cleared, flush, kept, code-step, star-step, step, walk, spans-at, spans}
+use Rattle.markdown.proofs.Basics.{not-empty}
 use Rattle.sheet.specs.Tree.{Kind, plain, strong, em, both, code, Run, run}
 use Rattle.sheet.specs.Grammar.{none-of, fits, touch, apart}
 use Rattle.sheet.specs.Written.{span, escaped, sign, written-run, written-runs}
@@ -93,10 +94,6 @@ plain-or-code strong b u = inl (record { signed = refl; state = refl; said = ref
 plain-or-code em b u = inl (record { signed = refl; state = refl; said = refl; spanned = refl })
 plain-or-code both b u = inl (record { signed = refl; state = refl; said = refl; spanned = refl })
 plain-or-code code b u = inr refl
-
-not-empty : (l : List ℕ) → 0 < length l → is-empty l ≡ false
-not-empty [] h = absurd (omega arith)
-not-empty (a ∷ l) h = refl
 
 flushed : (w : Walk) (b : ℕ) (u : List ℕ) → w .text ≡ reverse (b ∷ u) → flush w ≡ S.span false w (b ∷ u) ∷ []
 unfolding flush

@@ -2,7 +2,7 @@
 -- Assumes nothing.
 use Prim.Native.Nat.{ℕ, zero, suc, _+_, _*_, _≤_, min}
 use native.Mathlib.Omega.{arith}
-use mathlib.Core.Path.{_≡_}
+use mathlib.Core.Path.{_≡_, ap}
 use mathlib.Core.Bool.{true}
 use mathlib.Core.List.{List, [], _∷_, _++_, map}
 use lib.ListN.{length, length-append}
@@ -13,6 +13,7 @@ use Rattle.text.proofs.Laws.{size-append, size-encode}
 use Rattle.text.proofs.Tests.{and-true}
 use Rattle.records.specs.Blocks as B
 use Rattle.records.specs.Format.{encode-span, encode-spans, encode-kind, encode-count, encode-block, encode-blocks}
+use Rattle.records.proofs.FormatLaws.{blocks-append}
 use Rattle.spans.proofs.Bounds.{text-long}
 use Rattle.markdown.proofs.StateLaws.{count-small}
 use Rattle.sheet.specs.Tree.{Kind, Run, run, Block}
@@ -88,12 +89,6 @@ row-text : (l : List Run) → GoodRuns l → length (encode-block (block-of (tex
 row-text l g = omega (arith, block-long B.paragraph l (g .fit), some-runs l g)
 
 -- ---- rows, blocks, pages
-blocks-append : (a b : List B.Block) → length (encode-blocks (a ++ b)) ≡ length (encode-blocks a) + length (encode-blocks b)
-unfolding encode-blocks
-blocks-append [] b = omega arith
-blocks-append (x ∷ a) b =
-    omega (arith, blocks-append a b, length-append (encode-block x) (encode-blocks (a ++ b)), length-append (encode-block x) (encode-blocks a))
-
 one-block : (b : B.Block) → length (encode-blocks (b ∷ [])) ≡ length (encode-block b)
 unfolding encode-blocks
 one-block b = omega (arith, length-append (encode-block b) [])
@@ -119,9 +114,9 @@ rows-long (a-list it its e) = entries-long e
 all-long : (bs : List Block) → Each GoodRuns bs → length (encode-blocks (blocks-of bs)) ≤ 11 * size (written bs)
 unfolding blocks-of written joined encode-blocks
 all-long [] E.none = omega arith
-all-long (b ∷ []) (E.one h e) = omega (arith, blocks-append (map block-of (rows b)) [], rows-long h)
+all-long (b ∷ []) (E.one h e) = omega (arith, ap length (blocks-append (map block-of (rows b)) []), length-append (encode-blocks (map block-of (rows b))) (encode-blocks []), rows-long h)
 all-long (b ∷ c ∷ bs) (E.one h e) =
-    omega (arith, blocks-append (map block-of (rows b)) (blocks-of (c ∷ bs)), rows-long h, all-long (c ∷ bs) e, size-written b c bs)
+    omega (arith, ap length (blocks-append (map block-of (rows b)) (blocks-of (c ∷ bs))), length-append (encode-blocks (map block-of (rows b))) (encode-blocks (blocks-of (c ∷ bs))), rows-long h, all-long (c ∷ bs) e, size-written b c bs)
 
 pub sheet-records : {s : List ℕ} {t : List Block} → IsPage s t → length (encode-blocks (blocks-of t)) ≤ 11 * size (written t)
 sheet-records {t = t} p = all-long t (good-lines p)
