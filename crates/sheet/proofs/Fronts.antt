@@ -17,10 +17,9 @@ use Rattle.sheet.specs.Tree.{Kind, plain, strong, em, both, code, Run, r
 use Rattle.sheet.specs.Grammar as G
 use Rattle.sheet.specs.Grammar.{Many, stop, more, IsRun, is-run, Line, first-is, first-letter}
 use Rattle.sheet.specs.Written.{escaped, sign, written-run, written-runs}
-use Rattle.sheet.proofs.Facts.{false-true, Letter, a-letter, letter-is-not, letter-space, letter-digit}
+use Rattle.sheet.proofs.Facts.{false-true, Letter, a-letter, letter-is-not, letter-space, letter-special, letter-digit}
 use Rattle.sheet.proofs.Conditions.{neat-of}
 use Rattle.sheet.proofs.LineEnd.{space-first, solid-drop, runs-ended}
-use Rattle.sheet.proofs.Solid.{escaped-first}
 
 -- ---- trimming
 pub trim-start-is : (s t : List ℕ) → drop-while is-space s ≡ t → space-first (reverse t) ≡ false → trim s ≡ t
@@ -105,6 +104,11 @@ rule-first x s h =
       letter-is-not x h 124 (inr (inr (omega arith))),
       letter-is-not x h 58 (inl (omega arith)),
     )
+
+-- ---- a letter is written as it is
+escaped-first : (x : ℕ) (u : List ℕ) → is-letter x ≡ true → escaped (x ∷ u) ≡ x ∷ escaped u
+unfolding escaped
+escaped-first x u h = rw (letter-special x (a-letter x h))
 
 -- ---- a written line
 front-run : (k : Kind) (x : ℕ) (u s : List ℕ) → is-letter x ≡ true → Front (written-run (run k (x ∷ u)) ++ s)

@@ -16,7 +16,6 @@ pub mod LineOut
 pub mod LineEnd
 pub mod ListOut
 pub mod PageOut
-pub mod Solid
 pub mod Fronts
 pub mod Trimmed
 pub mod ReadBack

@@ -1,7 +1,7 @@
 -- Reading a written line gives its runs' spans. Between two texts stand k stars: k / 2 turns of bold, then k % 2 turns of italic, and only
 -- where two runs with italic touch does that not end the one and begin the other.
 -- Assumes nothing.
-use Prim.Native.Nat.{ℕ, suc, _<_}
+use Prim.Native.Nat.{ℕ, suc}
 use native.Mathlib.Omega.{arith}
 use native.Mathlib.Numerals.{add-one}
 use mathlib.Core.Path.{_≡_, refl, sym, _∙_, ap, subst}
@@ -12,7 +12,7 @@ use mathlib.Core.List.{List, [], _∷_, _++_, map, reverse, reverseAux, append-n
 use lib.ListN.{length, length-reverse}
 use lib.Seq.{take-append-seam, append-snoc}
 use borrow.Author.Tests.{not-true}
-use Rattle.text.specs.Words.{starts, is-empty, index, find}
+use Rattle.text.specs.Words.{starts, index, find}
 use Rattle.text.proofs.Tests.{and-true}
 use Rattle.html.specs.State.{special}
 use Rattle.records.specs.Blocks.{Span}

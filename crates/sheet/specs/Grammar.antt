@@ -5,8 +5,7 @@ use Prim.Native.Nat.{ℕ, zero, suc, _+_, _≤_}
 use mathlib.Core.Path.{_≡_}
 use mathlib.Core.Bool.{Bool, true, false, not, _&&_, _||_}
 use mathlib.Core.List.{List, [], _∷_, _++_}
-use lib.Dec.{eqb}
-use Rattle.text.specs.Words.{str, all}
+use Rattle.text.specs.Words.{str, is, all}
 use Rattle.html.specs.State.{special}
 use Rattle.records.specs.Format.{non-empty}
 use Rattle.text.specs.Chars.{is-space, is-control, is-letter}
@@ -49,7 +48,7 @@ pub data NL : List ℕ → List ℕ → Type 0 where
 
 -- Characters that are neither control nor space, and bytes 32. `<` and `&` occur only as `&lt;` and `&amp;`; `&gt;` and `&quot;` are allowed too.
 unfoldable pub shown : ℕ → Bool
-shown c = not (is-control c) && not (is-space c) && not (eqb c 60) && not (eqb c 38)
+shown c = not (is-control c) && not (is-space c) && not (is "<" c) && not (is "&" c)
 
 pub data Char : List ℕ → List ℕ → List ℕ → Type 0 where
   &lt : {s : List ℕ} → Char (str "&lt;" ++ s) (str "<") s
@@ -76,8 +75,9 @@ pub data Text : List ℕ → List ℕ → List ℕ → Type 0 where
 unfoldable pub singles : List ℕ → Bool
 singles [] = true
 singles (a ∷ []) = true
-singles (a ∷ b ∷ t) = not (eqb a 32 && eqb b 32) && singles (b ∷ t)
+singles (a ∷ b ∷ t) = not (is " " a && is " " b) && singles (b ∷ t)
 
+-- tests of a text's first character, of its last, and of all
 unfoldable pub first-is : (ℕ → Bool) → List ℕ → Bool
 first-is f [] = false
 first-is f (a ∷ t) = f a
@@ -91,7 +91,7 @@ abbrev pub none-of : (ℕ → Bool) → List ℕ → Bool
 none-of f t = all (λ c. not (f c)) t
 
 abbrev pub no-blank : ℕ → Bool
-no-blank b = not (eqb b 32)
+no-blank c = not (is " " c)
 
 -- Non-empty. Only a plain run may start or end with 32. Code holds none of `\ * [ !` or the backtick.
 abbrev pub edges : List ℕ → Bool

@@ -17,7 +17,7 @@ abbrev pub Answer : Type 0 → Type 0
 Answer A = Option (A × List ℕ)
 
 abbrev pub nl? : List ℕ → List ℕ
-nl? s = case (strip (10 ∷ []) s) s (λ r. r)
+nl? s = case (strip (str "\n") s) s (λ r. r)
 
 unfoldable pub own : List ℕ → Answer (List ℕ)
 own [] = none
@@ -90,6 +90,7 @@ unfoldable pub read-list : ℕ → List ℕ → Answer (Mark × Items)
 read-list zero s = none
 read-list (suc d) s = list-of (item (read-list d)) s
 
+-- N, 1 to 6
 abbrev pub digit : List ℕ → Answer ℕ
 digit [] = none
 digit (b ∷ s) = guard (within 49 54 b) (some (b - 48, s))
