@@ -1,25 +1,13 @@
 -- Small laws of tests and lists.
 -- Assumes nothing.
 use Prim.Native.Nat.{ℕ, _≤_}
-use mathlib.Core.Bool.{Bool, true, false, cond, _&&_, _||_}
+use mathlib.Core.Bool.{false}
 use mathlib.Core.List.{List, [], _∷_, _++_}
 use mathlib.Core.Logic.{_⊎_, inl, inr}
 use mathlib.Core.Path.{_≡_, refl, ap}
 use native.Mathlib.Omega.{arith}
 use lib.ListN.{length}
 use Rattle.text.specs.Words.{is-empty}
-
-pub and-right : (t : Bool) → t && true ≡ t
-and-right true = refl
-and-right false = refl
-
-pub or-false : (t : Bool) → t || false ≡ t
-or-false true = refl
-or-false false = refl
-
-pub or-assoc : (a b c : Bool) → (a || b) || c ≡ a || (b || c)
-or-assoc true b c = refl
-or-assoc false b c = refl
 
 pub not-empty : (l : List ℕ) → 1 ≤ length l → is-empty l ≡ false
 not-empty [] h = absurd (omega arith)

@@ -1,14 +1,14 @@
 -- What `blocks-call` says in each case, and the answer, the length and the buffers with it.
 -- Assumes nothing.
 use Prim.Native.Nat.{ℕ, _*_, _≤_, _<_}
-use mathlib.Core.Bool.{Bool, true, false}
-use mathlib.Core.List.{List, []}
-use mathlib.Core.Path.{_≡_, refl, sym, ap, _∙_, subst}
+use mathlib.Core.Bool.{true, false}
+use mathlib.Core.List.{List}
+use mathlib.Core.Path.{_≡_, refl, sym, _∙_, subst}
 use borrow.Author.Tests.{lt-ltb, le-ltb}
 use lib.ListN.{length, replicate}
 use lib.Seq.{sets}
-use Rattle.text.specs.Utf8.{chars, is-utf8, decode}
-use Rattle.text.specs.Outcome.{Outcome, refused, wrote, number, returned, front, result-after, work-kept}
+use Rattle.text.specs.Utf8.{chars, is-utf8}
+use Rattle.text.specs.Outcome.{Outcome, refused, wrote, number, returned, result-after, work-kept}
 use Rattle.text.proofs.Laws.{decode-true, decode-false}
 use Rattle.records.specs.Format.{encode-blocks}
 use Rattle.records.proofs.Stores.{sets-front}

@@ -1,13 +1,11 @@
 -- The turns of the loop that stores the cells of a row behind the part of the buffer that it reads.
 -- Assumes nothing.
-use Prim.Native.Nat.{ℕ, zero, suc, _+_, _*_, _-_, _≤_, _<_}
+use Prim.Native.Nat.{ℕ, suc, _+_, _*_, _-_, _≤_, _<_}
 use mathlib.Core.Bool.{Bool, true, false}
 use mathlib.Core.List.{List, [], _∷_, _++_, append-assoc, append-nil}
 use mathlib.Core.Path.{_≡_, refl, sym, ap, _∙_}
-use native.Mathlib.Numerals.{add-one}
 use native.Mathlib.Omega.{arith}
-use lib.Dec.{eqb}
-use lib.ListN.{length, getD, take, drop, set, length-append, length-drop}
+use lib.ListN.{length, getD, take, drop, set, length-append}
 use lib.Seq.{sets, sets-eq, length-sets, take-at, take-take, take-suc, take-append-le, drop-append-le, drop-drop, length-take-le}
 use Rattle.text.specs.Words.{starts, take-while, trim-end-matches}
 use Rattle.text.specs.Utf8.{Scalars, chars}

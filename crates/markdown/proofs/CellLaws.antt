@@ -1,25 +1,24 @@
 -- The laws of `row`: one pass does what the two replacements do, and the same of bytes as of characters.
 -- Assumes nothing.
-use Prim.Native.Nat.{ℕ, zero, suc, _+_, _*_, _-_, _≤_, _<_}
-use mathlib.Core.Bool.{Bool, true, false, cond, _&&_}
-use mathlib.Core.List.{List, [], _∷_, _++_, append-assoc, append-nil, reverse, reverse-cons, reverse-append, reverse-reverse}
-use mathlib.Core.Logic.{_⊎_, inl, inr, ⊎-elim}
+use Prim.Native.Nat.{ℕ, zero, suc, _≤_, _<_}
+use mathlib.Core.Bool.{Bool, true, false, cond}
+use mathlib.Core.List.{List, [], _∷_, _++_, reverse, reverse-cons, reverse-append, reverse-reverse}
+use mathlib.Core.Logic.{inl, ⊎-elim}
 use mathlib.Core.Path.{_≡_, refl, sym, ap, _∙_}
 use borrow.Author.Tests.{eqb-true, eqb-false, eq-eqb, ne-eqb, ltb-true, ltb-false}
-use native.Mathlib.Numerals.{add-one}
 use native.Mathlib.Omega.{arith}
 use lib.Dec.{eqb, ltb}
-use lib.ListN.{length, getD, take, drop, length-append, length-drop}
+use lib.ListN.{length, getD, take, drop, length-drop}
 use lib.Seq.{take-length, take-suc}
-use Rattle.text.specs.Words.{if_then_else_, str, starts, starts-with, is-empty, drop-while, take-while, trim-end-matches, trim-matches}
-use Rattle.text.specs.Utf8.{IsScalar, Scalars, utf8, encode, chars}
+use Rattle.text.specs.Words.{if_then_else_, starts, starts-with, drop-while, take-while, trim-end-matches, trim-matches}
+use Rattle.text.specs.Utf8.{Scalars, utf8, encode, chars}
 use Rattle.text.specs.Trim.{trim}
-use Rattle.text.proofs.Tests.{decide, on, and-true, within-below}
+use Rattle.text.proofs.Tests.{decide, on, and-true, within-below, and-true-right}
 use Rattle.text.proofs.Laws.{utf8-ascii, chars-nil, chars-append, chars-encode, encode-chars, encode-append, scalars-append}
-use Rattle.text.proofs.AsciiLaws.{Ascii, chars-ascii, encode-ascii}
+use Rattle.text.proofs.AsciiLaws.{Ascii, chars-ascii}
 use Rattle.markdown.specs.Blocks.{replace, row}
 use Rattle.markdown.specs.Cells.{cells, dot, dot-bytes}
-use Rattle.markdown.proofs.Basics.{and-right, last-of}
+use Rattle.markdown.proofs.Basics.{last-of}
 use Rattle.markdown.proofs.CommentLaws.{High, utf8-all-high, starts-high, starts-encode, drop-encode, scalars-drop}
 use Rattle.markdown.proofs.RunLaws.{run-chars, same-low}
 
@@ -32,7 +31,7 @@ replaced (suc n) (c ∷ s) = replaced n s
 replaced zero (c ∷ s) = go (starts " | " (c ∷ s)) (eqb c 124) refl (replaced 2 s) (replaced 0 s)
   where
     later : (x : List ℕ) (t : Bool) → eqb c 124 ≡ t → replace "|" dot 0 (c ∷ x) ≡ (if t then dot ++ replace "|" dot 0 x else c ∷ replace "|" dot 0 x)
-    later x t e = rw (and-right (eqb c 124), e)
+    later x t e = rw (and-true-right (eqb c 124), e)
 
     go : (t u : Bool) → eqb c 124 ≡ u → replace "|" dot 0 (replace " | " dot 2 s) ≡ cells dot 2 s → replace "|" dot 0 (replace " | " dot 0 s) ≡ cells dot 0 s
         → replace "|" dot 0 (if t then dot ++ replace " | " dot 2 s else c ∷ replace " | " dot 0 s)

@@ -2,21 +2,19 @@
 -- Assumes nothing.
 use Prim.Native.Nat.{ℕ, zero, suc, _+_, _≤_, _<_}
 use mathlib.Core.Bool.{Bool, true, false, cond, true≢false}
-use mathlib.Core.Option.{Option, none, some}
-use mathlib.Core.List.{List, [], _∷_, _++_, append-assoc}
+use mathlib.Core.Option.{none, some}
+use mathlib.Core.List.{List, [], _∷_, _++_}
 use mathlib.Core.Logic.{_⊎_, inl, inr, ⊎-elim}
 use mathlib.Core.Path.{_≡_, refl, sym, ap, _∙_}
 use borrow.Author.Tests.{ltb-true, ltb-false, eqb-true, ne-eqb}
-use native.Mathlib.Numerals.{add-one}
 use native.Mathlib.Omega.{arith}
 use lib.Dec.{ltb, eqb}
 use lib.ListN.{length, drop, length-drop, drop-of-length-le}
-use lib.Seq.{drop-drop, drop-nil, drop-append-seam}
+use lib.Seq.{drop-drop, drop-append-seam}
 use Rattle.text.specs.Words.{if_then_else_, _>>=_, case, str, starts-with, starts, index}
-use Rattle.text.specs.Chars.{is-scalar}
 use Rattle.text.specs.Utf8.{IsScalar, Scalars, utf8, encode, chars, is-utf8}
 use Rattle.text.proofs.Tests.{decide, on, and-true}
-use Rattle.text.proofs.Laws.{Tails, Long, utf8-long, utf8-ascii, chars-encode, encode-chars, encode-append, scalars-true, scalars-append}
+use Rattle.text.proofs.Laws.{Tails, Long, utf8-long, utf8-ascii, chars-encode, encode-chars, encode-append, scalars-true}
 use Rattle.text.proofs.AsciiLaws.{Ascii, encode-ascii, starts-chars}
 use Rattle.markdown.specs.Blocks.{comment, cleaned}
 use Rattle.markdown.specs.Parts.{from, past}

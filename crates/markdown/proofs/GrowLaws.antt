@@ -1,39 +1,29 @@
 -- Block records one after the other, and an item's record that grows where it stands.
 -- Assumes nothing.
-use Prim.Native.Nat.{ℕ, zero, suc, _+_, _*_, _-_, _≤_, _<_}
-use mathlib.Core.Bool.{Bool, true, false}
+use Prim.Native.Nat.{ℕ, suc, _+_}
 use mathlib.Core.List.{List, [], _∷_, _++_, append-assoc, append-nil, reverse, reverse-cons}
 use mathlib.Core.Path.{_≡_, refl, sym, ap, _∙_}
-use native.Mathlib.Nat.{add-zero, zero-add}
+use native.Mathlib.Nat.{add-zero}
 use native.Mathlib.Omega.{arith}
 use lib.ListN.{length, set, length-append}
 use lib.Seq.{sets, set-set}
-use borrow.Author.Tests.{eq-eqb, ne-eqb}
+use borrow.Author.Tests.{ne-eqb}
 use Rattle.text.specs.Utf8.{utf8, size}
-use Rattle.records.specs.Blocks.{Span, Kind, item, Block, Item}
-use Rattle.records.specs.Format.{le32, kind-bits, encode-kind, encode-count, encode-span, encode-spans, encode-block, encode-blocks}
+use Rattle.records.proofs.FormatLaws.{blocks-append, spans-append}
+use Rattle.records.specs.Blocks.{Span, item, Block, Item}
+use Rattle.records.specs.Format.{le32, kind-bits, encode-kind, encode-span, encode-spans, encode-block, encode-blocks}
 use Rattle.records.proofs.Stores.{sets-append, gap}
 use Rattle.markdown.specs.Blocks.{plain-space}
-use Rattle.markdown.specs.State.{span-start, continued-after, continued-out, space-bytes}
+use Rattle.markdown.specs.State.{continued-after, continued-out, space-bytes}
 use Rattle.markdown.specs.declared.writer.State.{State}
 
 -- ---- records one after the other
-blocks-append : (xs ys : List Block) → encode-blocks (xs ++ ys) ≡ encode-blocks xs ++ encode-blocks ys
-unfolding encode-blocks
-blocks-append [] ys = refl
-blocks-append (x ∷ xs) ys = rw (blocks-append xs ys) (sym (append-assoc (encode-block x) (encode-blocks xs) (encode-blocks ys)))
-
 pub blocks-last : (b : Block) (bs : List Block) → encode-blocks (reverse (b ∷ bs)) ≡ encode-blocks (reverse bs) ++ encode-block b
 unfolding encode-blocks
 blocks-last b bs =
     ap encode-blocks (reverse-cons b bs)
     ∙ blocks-append (reverse bs) (b ∷ [])
     ∙ ap (λ (l : List ℕ). encode-blocks (reverse bs) ++ l) (append-nil (encode-block b))
-
-pub spans-append : (xs ys : List Span) → encode-spans (xs ++ ys) ≡ encode-spans xs ++ encode-spans ys
-unfolding encode-spans
-spans-append [] ys = refl
-spans-append (x ∷ xs) ys = rw (spans-append xs ys) (sym (append-assoc (encode-span x) (encode-spans xs) (encode-spans ys)))
 
 pub space-spans : (more : List Span) → encode-spans (plain-space ∷ more) ≡ space-bytes ++ encode-spans more
 unfolding encode-spans encode-span size utf8

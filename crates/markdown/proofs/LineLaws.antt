@@ -1,18 +1,16 @@
 -- The laws of `lines`: the line that a text starts with, and what is left after it.
 -- Assumes nothing.
-use Prim.Native.Nat.{ℕ, zero, suc, _+_, _≤_, _<_}
+use Prim.Native.Nat.{ℕ}
 use mathlib.Core.Bool.{Bool, true, false, cond}
-use mathlib.Core.List.{List, [], _∷_, _++_}
-use mathlib.Core.Path.{_≡_, refl, sym, ap, _∙_}
+use mathlib.Core.List.{List, [], _∷_}
+use mathlib.Core.Path.{_≡_, refl, sym, _∙_}
 use native.Mathlib.Omega.{arith}
 use borrow.Author.Tests.{eqb-true}
 use lib.Dec.{eqb}
-use lib.ListN.{length, drop}
-use Rattle.text.specs.Words.{is-empty}
-use Rattle.text.specs.Utf8.{Scalars, chars}
-use Rattle.text.specs.Trim.{trim}
-use Rattle.text.proofs.FindLaws.{until, since, until-since, chars-until, chars-since, since-lead}
-use Rattle.text.proofs.Laws.{chars-nil, chars-append}
+use lib.ListN.{drop}
+use Rattle.text.specs.Utf8.{chars}
+use Rattle.text.proofs.FindLaws.{until, since, chars-until, chars-since}
+use Rattle.text.proofs.Laws.{chars-nil}
 use Rattle.text.proofs.AsciiLaws.{chars-ascii}
 use Rattle.text.proofs.Tests.{on}
 use Rattle.records.specs.Blocks.{Block}

@@ -1,26 +1,26 @@
 -- The steps of a row and of an indented line.
 -- Assumes nothing.
-use Prim.Native.Nat.{ℕ, zero, suc, _+_, _*_, _-_, _≤_, _<_, min}
-use mathlib.Core.Bool.{Bool, true, false, cond, _&&_, true≢false}
+use Prim.Native.Nat.{ℕ, _+_, _*_, _-_, _≤_}
+use mathlib.Core.Bool.{Bool, true, false, cond, _&&_}
 use mathlib.Core.Option.{none, some}
 use mathlib.Core.List.{List, [], _∷_, _++_}
-use mathlib.Core.Logic.{_⊎_, inl, inr, ⊎-elim}
+use mathlib.Core.Logic.{⊎-elim}
 use mathlib.Core.Path.{_≡_, refl, sym, ap, _∙_, subst}
-use borrow.Author.Tests.{eqb-true, eqb-false, eq-eqb}
+use borrow.Author.Tests.{eqb-true, eqb-false}
 use native.Mathlib.Omega.{arith}
 use lib.Dec.{eqb}
-use lib.ListN.{length, take, drop}
+use lib.ListN.{length}
 use lib.Seq.{sets, length-sets}
 use Rattle.text.specs.Words.{is-empty}
-use Rattle.text.specs.Utf8.{Scalars, chars, size}
-use Rattle.text.specs.Trim.{trim}
+use Rattle.text.specs.Utf8.{chars}
 use Rattle.text.proofs.Tests.{decide, on, and-true}
-use Rattle.records.specs.Blocks.{Span, Kind, Block, Paragraph, Item}
-use Rattle.records.specs.Format.{encode-spans, encode-block}
+use Rattle.text.proofs.Laws.{size-chars}
+use Rattle.records.specs.Blocks.{Span, Block, Paragraph, Item}
+use Rattle.records.specs.Format.{encode-block}
 use Rattle.spans.specs.Spans.{spans}
 use Rattle.spans.proofs.Bounds.{spans-small}
 use Rattle.markdown.specs.Blocks.{Reader, reader, row, continued, continuation, paragraph, added, plain-space}
-use Rattle.markdown.specs.Parts.{part, source, text-of, Inside}
+use Rattle.markdown.specs.Parts.{part, text-of}
 use Rattle.markdown.specs.Cells.{RowIs}
 use Rattle.markdown.specs.Shape.{Trimmed, wrapped}
 use Rattle.markdown.specs.State.{plain-after, span-start, continued-after, continued-out, ItemAt, LastIs, Holds, Safe, grown, Given, Steps, ends}
@@ -28,7 +28,7 @@ use Rattle.markdown.specs.declared.shape.Range.{Range}
 use Rattle.markdown.specs.declared.writer.State.{State}
 use Rattle.markdown.proofs.Basics.{not-empty}
 use Rattle.markdown.proofs.PartLaws.{part-length}
-use Rattle.markdown.proofs.RunLaws.{size-chars, empty-chars}
+use Rattle.markdown.proofs.RunLaws.{empty-chars}
 use Rattle.markdown.proofs.StoreLaws.{start-low}
 use Rattle.markdown.proofs.StateLaws.{moved-safe, safe-inside, text-length, text-none, given-small, block-small, plain-step, steps-then, holds-continued, spans-length}
 use Rattle.markdown.proofs.ParagraphLaws.{stored-text}

@@ -1,28 +1,28 @@
 -- The laws of the open paragraph: where its text is, and how a line joins it.
 -- Assumes nothing.
-use Prim.Native.Nat.{ℕ, zero, suc, _+_, _*_, _-_, _≤_, _<_, min}
+use Prim.Native.Nat.{ℕ, _+_, _-_, _≤_, _<_}
 use mathlib.Core.Bool.{Bool, true, false}
-use mathlib.Core.List.{List, [], _∷_, _++_, append-assoc, append-nil}
+use mathlib.Core.List.{List, [], _∷_, _++_, append-assoc}
 use mathlib.Core.Path.{_≡_, refl, sym, ap, _∙_}
 use native.Mathlib.Nat.{add-zero}
 use native.Mathlib.Omega.{arith}
-use lib.ListN.{length, getD, take, drop, set, length-set, length-append, drop-of-length-le}
-use lib.Seq.{sets, length-sets, getD-take, getD-drop, take-set-le, take-take}
+use lib.ListN.{length, getD, take, drop, set, length-set, drop-of-length-le}
+use lib.Seq.{sets, length-sets, getD-take, getD-drop, take-set-le}
 use Rattle.text.specs.Words.{is-empty}
 use Rattle.text.specs.Utf8.{chars}
 use Rattle.text.proofs.Laws.{chars-append}
 use Rattle.text.proofs.AsciiLaws.{chars-ascii}
 use Rattle.records.specs.Blocks.{Block}
 use Rattle.records.proofs.Stores.{sets-next}
-use Rattle.markdown.specs.Blocks.{Reader, reader, joined, paragraph}
-use Rattle.markdown.specs.Parts.{part, source, text-of, Inside}
-use Rattle.markdown.specs.State.{placed, ItemAt, LastIs, Owned, Holds, Placed, Safe, grown, Given, Steps, starts-with-text}
+use Rattle.markdown.specs.Blocks.{Reader, joined, paragraph}
+use Rattle.markdown.specs.Parts.{part, text-of, Inside}
+use Rattle.markdown.specs.State.{placed, LastIs, Owned, Placed, Safe, grown, Given, Steps, starts-with-text}
 use Rattle.markdown.specs.declared.writer.State.{State}
 use Rattle.markdown.proofs.Basics.{not-empty}
 use Rattle.markdown.proofs.PartLaws.{part-none, part-length}
 use Rattle.markdown.proofs.RunLaws.{empty-chars}
 use Rattle.markdown.proofs.CellFill.{sets-part, sets-below, part-below}
-use Rattle.markdown.proofs.StateLaws.{given-inside, given-small, safe-inside, safe-long, text-length, text-none}
+use Rattle.markdown.proofs.StateLaws.{given-small, safe-inside, safe-long, text-length, text-none}
 
 -- ---- a copy within the buffer
 pub record Copies (work₀ work : List ℕ) (from to at i : ℕ) : Type 0 where

@@ -1,24 +1,21 @@
 -- The laws of parts of a list, and of a part without the spaces at its ends.
 -- Assumes nothing.
 use Prim.Native.Nat.{ℕ, zero, suc, _+_, _-_, _≤_, _<_}
-use mathlib.Core.Bool.{Bool, true, false, cond}
-use mathlib.Core.List.{List, [], _∷_, _++_, append-assoc, append-nil}
-use mathlib.Core.Logic.{_⊎_, inl, inr, ⊎-elim}
+use mathlib.Core.List.{List, [], _∷_}
+use mathlib.Core.Logic.{⊎-elim}
 use mathlib.Core.Path.{_≡_, refl, sym, ap, _∙_}
 use borrow.Author.Tests.{eqb-true, eqb-false, lt-ltb}
-use native.Mathlib.Numerals.{add-one}
 use native.Mathlib.Omega.{arith}
-use lib.Dec.{eqb, ltb}
-use lib.ListN.{length, getD, take, drop, length-append, length-drop, length-take, drop-of-length-le}
-use lib.Seq.{take-take, drop-drop, drop-nil, take-nil, length-take-le, take-length, take-all}
+use lib.Dec.{eqb}
+use lib.ListN.{length, take, drop, length-drop}
+use lib.Seq.{take-take, drop-drop, take-nil, length-take-le, take-length, take-all}
 use Rattle.text.specs.Utf8.{encode, chars}
-use Rattle.text.specs.Trim.{trim-start, trim-end, trim, start-of, end-of, space-before}
+use Rattle.text.specs.Trim.{trim-start, trim-end, start-of, end-of, space-before}
 use Rattle.text.proofs.Tests.{decide}
 use Rattle.text.proofs.Laws.{encode-chars}
 use Rattle.text.proofs.TrimLaws.{drop-start, chars-start, start-le, end-le, take-end, end-space, end-other}
 use Rattle.markdown.specs.Parts.{part, Inside}
 use Rattle.markdown.specs.Shape.{Trimmed}
-use Rattle.markdown.specs.declared.shape.Range.{Range}
 
 sub-zero : (n : ℕ) → n - 0 ≡ n
 sub-zero n = omega arith

@@ -1,20 +1,20 @@
 -- The loop over the lines: the state stands for a reader, and what is left gives the blocks of the whole Markdown.
 -- Assumes nothing.
-use Prim.Native.Nat.{ℕ, zero, suc, _+_, _*_, _-_, _≤_, _<_, min}
+use Prim.Native.Nat.{ℕ, _+_, _*_, _-_, _≤_, _<_}
 use mathlib.Core.Bool.{Bool, true, false}
-use mathlib.Core.List.{List, [], _∷_, _++_, reverse}
+use mathlib.Core.List.{List, [], reverse}
 use mathlib.Core.Path.{_≡_, refl, sym, ap, _∙_, subst}
 use native.Mathlib.Omega.{arith}
 use lib.ListN.{length, take, drop, drop-of-length-le}
 use lib.Seq.{sets}
 use Rattle.text.specs.Utf8.{Scalars, chars, is-utf8}
 use Rattle.text.proofs.Laws.{chars-nil, chars-append}
-use Rattle.text.proofs.FindLaws.{until, since, until-since, chars-until, chars-since, since-lead}
-use Rattle.records.specs.Blocks.{Span, Block}
+use Rattle.text.proofs.FindLaws.{until, since, until-since, since-lead}
+use Rattle.records.specs.Blocks.{Block}
 use Rattle.records.specs.Format.{encode-blocks}
-use Rattle.markdown.specs.Blocks.{Reader, reader, flush, lines, cleaned, read-line, read-lines, blocks}
-use Rattle.markdown.specs.Parts.{part, source, text-of, Inside, LineIs}
-use Rattle.markdown.specs.State.{fresh, ItemAt, LastIs, Holds, Placed, Safe, grown, LineGiven, Steps, ends}
+use Rattle.markdown.specs.Blocks.{Reader, reader, flush, cleaned, read-line, blocks}
+use Rattle.markdown.specs.Parts.{part, source, text-of, LineIs}
+use Rattle.markdown.specs.State.{fresh, Holds, Placed, Safe, grown, LineGiven, Steps, ends}
 use Rattle.markdown.specs.declared.lines.Line.{Line}
 use Rattle.markdown.specs.declared.writer.State.{State}
 use Rattle.markdown.proofs.LineLaws.{after, chars-after, final, final-line, final-end}

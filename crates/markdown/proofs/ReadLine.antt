@@ -1,9 +1,9 @@
 -- The steps of a line by its shape.
 -- Assumes nothing.
-use Prim.Native.Nat.{ℕ, zero, suc, _+_, _*_, _-_, _≤_, _<_, min}
-use mathlib.Core.Bool.{Bool, true, false}
-use mathlib.Core.List.{List, [], _∷_, _++_}
-use mathlib.Core.Path.{_≡_, refl, sym, ap, _∙_, subst}
+use Prim.Native.Nat.{ℕ, _+_, _-_, _≤_}
+use mathlib.Core.Bool.{true}
+use mathlib.Core.List.{List}
+use mathlib.Core.Path.{_≡_, sym, ap, _∙_, subst}
 use native.Mathlib.Omega.{arith}
 use lib.ListN.{length}
 use Rattle.text.specs.Words.{all}
@@ -13,9 +13,8 @@ use Rattle.records.specs.Blocks.{Heading, Paragraph, Item}
 use Rattle.spans.specs.Spans.{spans}
 use Rattle.markdown.specs.Blocks.{Reader, reader, flush, row, paragraph, added, read-line}
 use Rattle.markdown.specs.Parts.{part, source, text-of, Inside}
-use Rattle.markdown.specs.Shape.{mark, Reads, ReadsText, ReadsItem, wrapped, Says}
+use Rattle.markdown.specs.Shape.{mark, ReadsText, wrapped, Says}
 use Rattle.markdown.specs.State.{Holds, Safe, grown, Given, LineGiven, Steps, ends, starts-with-text}
-use Rattle.markdown.specs.declared.shape.Class.{Class}
 use Rattle.markdown.specs.declared.shape.Class.the-variants.{Ends, Headed, Opens, Listed, Row, Wrapped, Text}
 use Rattle.markdown.specs.declared.lines.Line.{Line}
 use Rattle.markdown.specs.declared.writer.State.{State}

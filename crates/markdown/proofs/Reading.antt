@@ -1,22 +1,20 @@
 -- The turns of the loops that read a line from the Markdown.
 -- Assumes nothing.
-use Prim.Native.Nat.{ℕ, zero, suc, _+_, _-_, _≤_, _<_}
-use mathlib.Core.Bool.{Bool, true, false, cond}
+use Prim.Native.Nat.{ℕ, suc, _+_, _-_, _≤_, _<_}
+use mathlib.Core.Bool.{true, false}
 use mathlib.Core.List.{List, [], _∷_, _++_, append-assoc, append-nil}
 use mathlib.Core.Path.{_≡_, refl, sym, ap, _∙_}
-use borrow.Author.Tests.{eqb-true, ne-eqb, eq-eqb}
+use borrow.Author.Tests.{ne-eqb}
 use native.Mathlib.Numerals.{add-one}
 use native.Mathlib.Omega.{arith}
-use lib.Dec.{eqb}
 use lib.ListN.{length, getD, take, drop, set, length-append, length-drop, length-set, drop-of-length-le}
-use lib.Seq.{sets, sets-eq, length-sets, drop-cons, drop-drop, drop-append-add, drop-set-lt, getD-drop, take-at, take-suc, take-suc-set, length-take-le}
+use lib.Seq.{sets, length-sets, drop-cons, drop-drop, drop-append-add, drop-set-lt, getD-drop, take-at, take-suc, take-suc-set, length-take-le}
 use Rattle.text.specs.Words.{starts}
 use Rattle.records.proofs.Stores.{sets-front}
-use Rattle.text.proofs.FindLaws.{until, since}
 use Rattle.markdown.specs.Blocks.{cleaned}
-use Rattle.markdown.specs.Parts.{part, from, past, first-line, other-lines, text-of, source, Inside, PastIs, CommentedIs, LineIs}
+use Rattle.markdown.specs.Parts.{part, from, past, first-line, other-lines, text-of, PastIs, CommentedIs, LineIs}
 use Rattle.markdown.specs.declared.lines.Line.{Line}
-use Rattle.markdown.proofs.CommentLaws.{opening, closing, comment-goes, other-stays, starts-split}
+use Rattle.markdown.proofs.CommentLaws.{closing, comment-goes, other-stays, starts-split}
 
 pub drop-next : (s : List ℕ) (j : ℕ) → j < length s → drop j s ≡ getD s j 0 ∷ drop (j + 1) s
 drop-next s j l = rw (add-one j) (drop-cons s j 0 l)
@@ -69,9 +67,6 @@ module _ (s : List ℕ) (j : ℕ) (l : j < length s) where
   at-other e =
       let d = drop-next s j l in
       ap (cleaned 0) d ∙ other-stays (getD s j 0) (drop (j + 1) s) (rw d at e)
-
-pub break-first : (t : List ℕ) → first-line (10 ∷ t) ≡ []
-break-first t = refl
 
 pub other-first : (b : ℕ) (t : List ℕ) → (b ≡ 10 → ⊥) → (first-line (b ∷ t) ≡ b ∷ first-line t) × (other-lines (b ∷ t) ≡ other-lines t)
 other-first b t n = (rw (ne-eqb b 10 n), rw (ne-eqb b 10 n))

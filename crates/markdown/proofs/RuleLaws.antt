@@ -1,23 +1,21 @@
 -- The laws of `is-rule` and of the tests that it is made of.
 -- Assumes nothing.
-use Prim.Native.Nat.{ℕ, zero, suc, _+_, _-_, _≤_, _<_}
-use mathlib.Core.Bool.{Bool, true, false, cond, _&&_, _||_, true≢false}
+use Prim.Native.Nat.{ℕ, _+_, _≤_, _<_}
+use mathlib.Core.Bool.{Bool, true, false, _&&_, _||_, true≢false, or-false, or-assoc}
 use mathlib.Core.List.{List, [], _∷_}
-use mathlib.Core.Logic.{_⊎_, inl, inr, ⊎-elim}
+use mathlib.Core.Logic.{⊎-elim}
 use mathlib.Core.Path.{_≡_, refl, sym, ap, _∙_}
 use borrow.Author.Tests.{ltb-true, ltb-false, le-leb, lt-leb}
-use native.Mathlib.Omega.{arith}
-use lib.Dec.{eqb, ltb, leb}
-use lib.ListN.{length, getD, drop, drop-of-length-le}
+use lib.Dec.{ltb, leb}
+use lib.ListN.{length, getD, drop}
 use Rattle.text.specs.Words.{all, any, matches}
 use Rattle.text.specs.Utf8.{size, chars}
-use Rattle.text.proofs.Tests.{decide, and-true, and-false}
-use Rattle.text.proofs.Laws.{chars-nil}
+use Rattle.text.proofs.Tests.{decide, and-true}
+use Rattle.text.proofs.Laws.{chars-nil, size-chars}
 use Rattle.text.proofs.AsciiLaws.{chars-ascii}
 use Rattle.markdown.specs.Blocks.{is-rule}
-use Rattle.markdown.proofs.Basics.{or-false, or-assoc}
 use Rattle.markdown.proofs.Reading.{drop-next}
-use Rattle.markdown.proofs.RunLaws.{ruled-low, all-chars, size-chars}
+use Rattle.markdown.proofs.RunLaws.{ruled-low, all-chars}
 
 abbrev pub ruled : ℕ → Bool
 ruled = matches "-*_ |:"

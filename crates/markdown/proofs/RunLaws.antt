@@ -1,22 +1,20 @@
 -- The laws of the run of bytes that a text starts with: one turn of a loop, and the same of characters.
 -- Assumes nothing.
-use Prim.Native.Nat.{ℕ, zero, suc, _+_, _-_, _≤_, _<_}
-use mathlib.Core.Bool.{Bool, true, false, cond, _&&_, _||_}
+use Prim.Native.Nat.{ℕ, suc, _+_, _≤_, _<_}
+use mathlib.Core.Bool.{Bool, true, false, cond}
 use mathlib.Core.List.{List, [], _∷_, _++_}
-use mathlib.Core.Logic.{_⊎_, inl, inr, ⊎-elim}
+use mathlib.Core.Logic.{⊎-elim}
 use mathlib.Core.Path.{_≡_, refl, sym, ap, _∙_}
-use borrow.Author.Tests.{ltb-true, ltb-false, ne-eqb, lt-leb, le-leb, eqb-true, leb-true}
-use native.Mathlib.Numerals.{add-one}
+use borrow.Author.Tests.{ltb-true, ltb-false, ne-eqb, lt-leb, le-leb}
 use native.Mathlib.Omega.{arith}
-use lib.Dec.{eqb, ltb, leb}
+use lib.Dec.{eqb, ltb}
 use lib.ListN.{length, getD, take, drop, length-drop, drop-of-length-le}
-use lib.Seq.{drop-cons}
-use Rattle.text.specs.Words.{is-empty, all, any, matches, starts-with, take-while, drop-while}
-use Rattle.text.specs.Chars.{within, is-digit}
-use Rattle.text.specs.Utf8.{utf8, encode, size, chars}
-use Rattle.text.proofs.Tests.{decide, on, and-true}
-use Rattle.text.proofs.Laws.{chars-nil, encode-chars, encode-append}
-use Rattle.text.proofs.AsciiLaws.{Ascii, chars-ascii, chars-high, starts-chars}
+use Rattle.text.specs.Words.{is-empty, all, matches, starts-with, take-while, drop-while}
+use Rattle.text.specs.Chars.{is-digit}
+use Rattle.text.specs.Utf8.{chars}
+use Rattle.text.proofs.Tests.{decide, on}
+use Rattle.text.proofs.Laws.{chars-nil}
+use Rattle.text.proofs.AsciiLaws.{Ascii, chars-ascii, chars-high}
 use Rattle.markdown.proofs.CommentLaws.{starts-split}
 use Rattle.markdown.proofs.Reading.{drop-next}
 use lib.Seq.{drop-append-seam}
@@ -97,21 +95,9 @@ digit-low c h = rw (le-leb 48 c (omega arith), lt-leb c 57 (omega arith))
 pub same-low : (b : ℕ) → b < 0x80 → (c : ℕ) → 0x80 ≤ c → eqb c b ≡ false
 same-low b l c h = ne-eqb c b (omega arith)
 
-pub mark-low : (c : ℕ) → 0x80 ≤ c → matches "-*_" c ≡ false
-mark-low c h = simp (ne-eqb c 45 (omega arith), ne-eqb c 42 (omega arith), ne-eqb c 95 (omega arith))
-
 pub ruled-low : (c : ℕ) → 0x80 ≤ c → matches "-*_ |:" c ≡ false
 ruled-low c h =
     simp (ne-eqb c 45 (omega arith), ne-eqb c 42 (omega arith), ne-eqb c 95 (omega arith), ne-eqb c 32 (omega arith), ne-eqb c 124 (omega arith), ne-eqb c 58 (omega arith))
-
--- ---- how many bytes a text has
-pub size-encode : (cs : List ℕ) → size cs ≡ length (encode cs)
-unfolding size
-size-encode [] = refl
-size-encode (c ∷ cs) = rw (size-encode cs) (sym (length-append (utf8 c) (encode cs)))
-
-pub size-chars : (s : List ℕ) → size (chars s) ≡ length s
-size-chars s = size-encode (chars s) ∙ ap length (encode-chars s)
 
 pub empty-chars : (s : List ℕ) → is-empty (chars s) ≡ is-empty s
 empty-chars [] = rw chars-nil

@@ -1,34 +1,32 @@
 -- The laws of headings, list markers and the order of the tests on a line, on the line's bytes.
 -- Assumes nothing.
-use Prim.Native.Nat.{ℕ, zero, suc, _+_, _-_, _/_, _≤_, _<_, min}
-use mathlib.Core.Bool.{Bool, true, false, cond, _&&_, _||_}
-use mathlib.Core.Option.{Option, none, some}
+use Prim.Native.Nat.{ℕ, suc, _+_, _-_, _/_, _≤_, _<_, min}
+use mathlib.Core.Bool.{true, false, _&&_, _||_}
+use mathlib.Core.Option.{none, some}
 use mathlib.Core.List.{List, [], _∷_, _++_}
-use mathlib.Core.Logic.{_⊎_, inl, inr, ⊎-elim}
 use mathlib.Core.Path.{_≡_, refl, sym, ap, _∙_}
-use borrow.Author.Tests.{eq-eqb, ne-eqb, le-leb, lt-leb, leb-true}
+use borrow.Author.Tests.{eq-eqb, ne-eqb, le-leb, lt-leb}
 use native.Mathlib.Omega.{arith}
-use lib.Dec.{eqb, ltb, leb}
+use lib.Dec.{eqb, leb}
 use lib.ListN.{length, getD, take, drop, length-append, length-drop}
 use lib.Seq.{drop-drop}
-use Rattle.text.specs.Words.{if_then_else_, case, str, starts, starts-with, is-empty, all, take-while, drop-while}
+use Rattle.text.specs.Words.{if_then_else_, case, str, starts, starts-with, is-empty, take-while, drop-while}
 use Rattle.text.specs.Chars.{within, is-digit, is-space}
 use Rattle.text.specs.Utf8.{encode, size, chars}
-use Rattle.text.specs.Trim.{trim, trim-start, start-of}
-use Rattle.text.proofs.Tests.{decide, on, or-elim, and-false, within-is, within-below, within-above}
-use Rattle.text.proofs.Laws.{chars-nil, encode-chars, encode-append}
+use Rattle.text.specs.Trim.{trim, start-of}
+use Rattle.text.proofs.Tests.{or-elim, and-false, within-is, within-below, within-above, and-true-right}
+use Rattle.text.proofs.Laws.{chars-nil, encode-chars, encode-append, size-encode}
 use Rattle.text.proofs.AsciiLaws.{Ascii, starts-chars}
 use Rattle.text.proofs.TrimLaws.{drop-start, chars-start, start-le}
 use Rattle.records.specs.Blocks.{Heading, Paragraph, Item}
 use Rattle.spans.specs.Spans.{spans}
-use Rattle.markdown.specs.Blocks.{is-rule, Marked, marked, marker-at, list-marker, row, Reader, reader, flush, added, heading, paragraph, continuation, read-text, read-line}
+use Rattle.markdown.specs.Blocks.{is-rule, marked, marker-at, list-marker, row, Reader, reader, flush, added, heading, paragraph, continuation, read-text, read-line}
 use Rattle.markdown.specs.Parts.{part, Inside}
-use Rattle.markdown.specs.Shape.{Trimmed, Titled, mark, item-of, MarkerAt, Reads, ReadsText, ReadsItem, wrapped, Bare, Says}
+use Rattle.markdown.specs.Shape.{Trimmed, Titled, mark, MarkerAt, Reads, ReadsText, ReadsItem, wrapped, Bare}
 use Rattle.markdown.specs.declared.shape.Range.{Range}
-use Rattle.markdown.proofs.Basics.{and-right}
 use Rattle.markdown.proofs.Reading.{drop-next}
 use Rattle.markdown.proofs.PartLaws.{part-from, part-none, part-length, part-part}
-use Rattle.markdown.proofs.RunLaws.{run-chars, run-take, run-all, run-le, run-split, same-low, digit-low, size-encode, size-chars, empty-chars, chars-past, starts-in}
+use Rattle.markdown.proofs.RunLaws.{run-chars, run-take, run-all, run-le, run-split, same-low, digit-low, empty-chars, chars-past, starts-in}
 
 ascii-one : (x : ℕ) → x < 0x80 → Ascii (x ∷ [])
 ascii-one x h = (h, tt)
@@ -227,7 +225,7 @@ module _ (line : List ℕ) (a b : ℕ) (some : a < b) (bound : b ≤ length line
   part-some = rw part-cons
 
   pub part-starts : (x : ℕ) → x < 0x80 → starts-with (x ∷ []) (chars (part line a b)) ≡ eqb (getD line a 0) x
-  part-starts x h = starts-chars (x ∷ []) (part line a b) (ascii-one x h) ∙ rw part-cons (and-right (eqb (getD line a 0) x))
+  part-starts x h = starts-chars (x ∷ []) (part line a b) (ascii-one x h) ∙ rw part-cons (and-true-right (eqb (getD line a 0) x))
 
 module _ (line : List ℕ) (a b : ℕ) (t : chars (part line a b) ≡ trim (chars line)) where
   pub line-blank : a ≡ b → (r : Reader) → read-line r (chars line) ≡ reader (flush r) []
@@ -311,7 +309,7 @@ module _ (line : List ℕ) (a b : ℕ) (v : Bare line a b) where
           record {
             some = v .some;
             bound = v .bound;
-            reads = λ r. bare-eq r ∙ rw (n, ne-eqb (getD line a 0) 124 o, eq-eqb (getD line 0 0) 32 e, and-right (is-empty (r .paragraph)));
+            reads = λ r. bare-eq r ∙ rw (n, ne-eqb (getD line a 0) 124 o, eq-eqb (getD line 0 0) 32 e, and-true-right (is-empty (r .paragraph)));
           }
 
       pub bare-text : (getD line 0 0 ≡ 32 → ⊥) → ReadsText line a b (paragraph (chars (part line a b)))

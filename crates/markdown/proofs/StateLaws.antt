@@ -1,33 +1,31 @@
 -- The laws of the reader's state: blocks that are added, an item that goes on, a paragraph that ends.
 -- Assumes nothing.
-use Prim.Native.Nat.{ℕ, zero, suc, _+_, _*_, _-_, _≤_, _<_, min}
-use mathlib.Core.Bool.{Bool, true, false, cond}
+use Prim.Native.Nat.{ℕ, zero, suc, _+_, _*_, _-_, _≤_}
+use mathlib.Core.Bool.{Bool, true, false}
 use mathlib.Core.Option.{none, some}
-use mathlib.Core.List.{List, [], _∷_, _++_, append-nil, reverse}
+use mathlib.Core.List.{List, [], _∷_, _++_, reverse}
 use mathlib.Core.Path.{_≡_, refl, sym, ap, _∙_, subst}
 use native.Mathlib.Nat.{zero-add}
 use native.Mathlib.Omega.{arith}
-use lib.Dec.{eqb}
-use lib.ListN.{length, take, drop, length-append}
+use lib.ListN.{length, length-append}
 use lib.Seq.{sets}
 use Rattle.text.specs.Words.{is-empty, all}
 use Rattle.text.specs.Chars.{is-digit}
 use Rattle.markdown.specs.Shape.{mark}
-use Rattle.text.specs.Utf8.{size, chars}
-use Rattle.text.proofs.Laws.{chars-nil}
-use Rattle.text.proofs.Tests.{on}
+use Rattle.text.specs.Utf8.{chars}
+use Rattle.text.proofs.Laws.{chars-nil, size-chars}
 use Rattle.records.specs.Blocks.{Span, Kind, heading, item, Block, Heading, Paragraph, Item}
 use Rattle.records.specs.Format.{kind-bits, encode-kind, encode-count, encode-span, encode-spans, encode-block, encode-blocks}
 use Rattle.records.proofs.Stores.{sets-append}
 use Rattle.spans.specs.Spans.{spans}
-use Rattle.spans.proofs.Bounds.{spans-small, spans-few}
+use Rattle.spans.proofs.Bounds.{spans-small}
 use Rattle.markdown.specs.Blocks.{Reader, reader, flush, added, continued, plain-space}
-use Rattle.markdown.specs.Parts.{part, source, text-of, Inside}
-use Rattle.markdown.specs.State.{counted, plain-after, item-after, span-start, continued-after, continued-out, closed, ItemAt, LastIs, Holds, Placed, Safe, grown, Given, Steps, ends, placed, starts-with-text}
+use Rattle.markdown.specs.Parts.{source, text-of, Inside}
+use Rattle.markdown.specs.State.{counted, plain-after, item-after, continued-after, continued-out, closed, ItemAt, LastIs, Holds, Placed, Safe, Given, Steps, ends}
 use Rattle.markdown.specs.declared.writer.State.{State}
 use Rattle.markdown.proofs.Basics.{not-empty}
 use Rattle.markdown.proofs.PartLaws.{part-none, part-length}
-use Rattle.markdown.proofs.RunLaws.{size-chars, empty-chars}
+use Rattle.markdown.proofs.RunLaws.{empty-chars}
 use Rattle.markdown.proofs.StoreLaws.{block-length, kind-short}
 use Rattle.markdown.proofs.GrowLaws.{blocks-last, grow}
 
@@ -59,15 +57,15 @@ unfolding text-of
 text-none md work copied from to e = rw (e, part-none (source copied md work) to) chars-nil
 
 -- ---- how long a record is
+pub count-small : (n : ℕ) → length (encode-count n) ≤ 4
+count-small zero = omega arith
+count-small (suc n) = omega arith
+
 counted-small : (text : List ℕ) → length (counted (spans (chars text))) ≤ 4 + 6 * length text
 counted-small text =
     let n = length-append (encode-count (length (spans (chars text)))) (encode-spans (spans (chars text))) in
     let c : length (encode-count (length (spans (chars text)))) ≤ 4 = count-small (length (spans (chars text))) in
     omega (arith, spans-small (chars text), size-chars text)
-  where
-    count-small : (n : ℕ) → length (encode-count n) ≤ 4
-    count-small zero = omega arith
-    count-small (suc n) = omega arith
 
 pub block-small : (k : Kind) (text : List ℕ) → length (encode-block (record { kind = k; spans = spans (chars text) })) ≤ 5 + length (encode-kind k) + 6 * length text
 block-small k text = omega (arith, block-length (record { kind = k; spans = spans (chars text) }), counted-small text)

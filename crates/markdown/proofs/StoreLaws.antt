@@ -1,25 +1,25 @@
 -- Stores of block records: a block whose head follows its spans, and an item's record that grows.
 -- Assumes nothing.
-use Prim.Native.Nat.{ℕ, zero, suc, _+_, _*_, _-_, _≤_, _<_, _^_}
-use mathlib.Core.Bool.{Bool, true, false}
-use mathlib.Core.List.{List, [], _∷_, _++_, append-assoc, append-nil, reverse, reverse-cons}
+use Prim.Native.Nat.{ℕ, zero, suc, _+_, _≤_}
+use mathlib.Core.Bool.{true, false}
+use mathlib.Core.List.{List, [], _∷_, _++_, append-assoc}
 use mathlib.Core.Path.{_≡_, refl, sym, ap, _∙_}
 use mathlib.Core.Logic.{⊎-elim}
 use borrow.Author.Tests.{ne-eqb, eqb-true, eqb-false}
 use lib.Dec.{eqb}
 use native.Mathlib.Nat.{add-zero}
 use native.Mathlib.Omega.{arith}
-use lib.ListN.{length, set, length-append}
-use lib.Seq.{sets, set-set}
+use lib.ListN.{length, length-append}
+use lib.Seq.{sets}
 use Rattle.text.specs.Words.{all}
 use Rattle.text.specs.Chars.{is-digit}
 use Rattle.text.specs.Utf8.{utf8, size, encode, chars}
 use Rattle.text.proofs.Tests.{decide, on, and-true, within-true}
 use Rattle.text.proofs.AsciiLaws.{Ascii, encode-ascii}
+use Rattle.text.proofs.Laws.{size-encode}
 use Rattle.markdown.specs.Shape.{mark, item-bits}
-use Rattle.markdown.proofs.RunLaws.{size-encode}
-use Rattle.records.specs.Blocks.{Span, Kind, item, Block, Item}
-use Rattle.records.specs.Format.{bit, non-empty, le16, le32, kind-bits, encode-kind, encode-count, encode-span, encode-spans, encode-block, encode-blocks}
+use Rattle.records.specs.Blocks.{Span, item, Block, Item}
+use Rattle.records.specs.Format.{bit, non-empty, le16, le32, kind-bits, encode-kind, encode-count, encode-spans, encode-block}
 use Rattle.records.proofs.Stores.{sets-append, gap}
 use Rattle.spans.specs.Spans.{spans}
 use Rattle.spans.specs.Line.{line-spans}
@@ -27,7 +27,6 @@ use Rattle.spans.proofs.LineLaws.{line-is}
 use Rattle.spans.specs.declared.Written.{Written}
 use Rattle.markdown.specs.State.{counted, SpansPut, plain-after, item-after, span-start, continued-after, continued-out, space-bytes}
 use Rattle.markdown.specs.declared.writer.State.{State}
-use Rattle.markdown.specs.Blocks.{plain-space}
 
 -- ---- the spans of a block
 module _ (out₀ out₁ : List ℕ) (head map fields : ℕ) where
@@ -135,7 +134,7 @@ mark-some [] a e = absurd (e refl)
 mark-some (d ∷ ds) a e =
     let x = (d ∷ ds) ++ (46 ∷ []) in
     let p : encode x ≡ x = encode-ascii x (ascii-append (d ∷ ds) (46 ∷ []) (digits-ascii (d ∷ ds) a) (omega arith, tt)) in
-    let n : size x ≡ length (d ∷ ds) + 1 = size-encode x ∙ ap length p ∙ length-append (d ∷ ds) (46 ∷ []) in
+    let n : size x ≡ length (d ∷ ds) + 1 = sym (size-encode x) ∙ ap length p ∙ length-append (d ∷ ds) (46 ∷ []) in
     rw (n, p)
 
 pub kind-deep : (depth : ℕ) (m : List ℕ) → (depth ≡ 0 → ⊥) → encode-kind (item depth m) ≡ le16 depth ++ (size m ∷ encode m)

@@ -1,13 +1,13 @@
 -- `is_rule`, `list_marker` and `blocks` of notes.rs (document 01, "Block reader").
 -- Assumes nothing.
 use Prim.Native.Nat.{ℕ, zero, suc, _+_, _-_, _/_, min}
-use mathlib.Core.Bool.{Bool, true, false, _&&_, _||_, not}
+use mathlib.Core.Bool.{Bool, false, _&&_, _||_}
 use mathlib.Core.List.{List, [], _∷_, _++_, reverse}
 use mathlib.Core.Option.{Option, none, some}
 use lib.ListN.{length, drop}
 use lib.Dec.{leb}
 use Prim.Native.String.{String}
-use Rattle.text.specs.Words.{if_then_else_, case, str, is, matches, is-empty, all, any, starts, index, find, take-while, drop-while, trim-matches}
+use Rattle.text.specs.Words.{if_then_else_, case, str, is, matches, is-empty, all, any, starts, find, take-while, drop-while, trim-matches}
 use Rattle.text.specs.Chars.{within, is-digit, is-space}
 use Rattle.text.specs.Utf8.{size}
 use Rattle.text.specs.Trim.{trim}

@@ -4,9 +4,8 @@ use Prim.Native.Nat.{ℕ, zero, suc, _+_, _*_, _-_, _≤_}
 use mathlib.Core.List.{List, [], _∷_, _++_}
 use mathlib.Core.Path.{_≡_}
 use lib.Dec.{eqb}
-use lib.ListN.{length}
 use Rattle.text.specs.Words.{if_then_else_, str, starts}
-use Rattle.text.specs.Utf8.{chars, encode}
+use Rattle.text.specs.Utf8.{chars}
 use Rattle.text.specs.Trim.{trim}
 use Rattle.markdown.specs.Blocks.{row}
 use Rattle.markdown.specs.Parts.{part}

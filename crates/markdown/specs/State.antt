@@ -1,6 +1,6 @@
 -- What the reader's state means: the records stored so far, the last item, and the paragraph that is open.
 -- Assumes nothing.
-use Prim.Native.Nat.{ℕ, zero, suc, _+_, _*_, _-_, _≤_, _<_, min}
+use Prim.Native.Nat.{ℕ, _+_, _*_, _-_, _≤_, min}
 use mathlib.Core.Bool.{Bool, true, false}
 use mathlib.Core.Option.{none}
 use mathlib.Core.List.{List, [], _∷_, _++_, reverse}
@@ -10,7 +10,7 @@ use lib.Seq.{sets}
 use lib.Dec.{eqb}
 use Rattle.text.specs.Words.{if_then_else_}
 use Rattle.text.specs.Utf8.{Scalars, chars}
-use Rattle.records.specs.Blocks.{Span, Kind, item, Block, Item}
+use Rattle.records.specs.Blocks.{Span, item, Block, Item}
 use Rattle.records.specs.Format.{bit, non-empty, le32, kind-bits, encode-kind, encode-count, encode-spans, encode-block, encode-blocks}
 use Rattle.spans.specs.Spans.{spans}
 use Rattle.spans.specs.declared.Written.{Written}

@@ -6,17 +6,8 @@ use mathlib.Core.Path.{_≡_, refl, ap}
 use native.Mathlib.Omega.{arith}
 use Rattle.text.specs.Find.{found}
 use Rattle.text.specs.declared.Found.the-variants.{Here, Nowhere}
-use Rattle.reference.specs.Answers.{answer, value}
-use Rattle.reference.specs.declared.Ampersand.the-variants.{Replaced, Left}
+use Rattle.reference.specs.Answers.{value}
 use Rattle.reference.specs.declared.Value.the-variants.{Is, Nothing}
-
-pub answer-some : (o : Option (ℕ × ℕ)) (c n : ℕ) → answer o ≡ Replaced c n → o ≡ some (c, n)
-answer-some none c n e = cc
-answer-some (some r) c n e = let a : r .0 ≡ c = cc in let b : r .1 ≡ n = cc in rw (← a, ← b)
-
-pub answer-none : (o : Option (ℕ × ℕ)) → answer o ≡ Left → o ≡ none
-answer-none none e = refl
-answer-none (some r) e = cc
 
 pub value-some : (o : Option ℕ) (c : ℕ) → value o ≡ Is c → o ≡ some c
 value-some none c e = cc

@@ -1,27 +1,27 @@
 -- What is known of a reference that is replaced, and the steps of `unescape`.
 -- Assumes nothing.
-use Prim.Native.Nat.{ℕ, zero, suc, _+_, _-_, _≤_, _<_}
+use Prim.Native.Nat.{ℕ, zero, suc, _+_, _≤_, _<_}
 use mathlib.Core.Bool.{Bool, true, false, _&&_, _||_, not}
-use mathlib.Core.List.{List, [], _∷_, _++_, append-assoc, append-nil}
+use mathlib.Core.List.{List, [], _∷_, _++_}
 use mathlib.Core.Option.{Option, none, some}
 use mathlib.Core.Path.{_≡_, refl, sym, ap, _∙_, subst}
 use borrow.Author.Tests.{leb-true, not-true}
 use native.Mathlib.Omega.{arith}
 use lib.Dec.{leb, eqb}
 use lib.ListN.{length, getD, take, drop, length-append, length-take, length-drop, take-append-drop}
-use lib.Seq.{take-append-add, drop-append-add, drop-drop, take-take}
-use Rattle.text.specs.Words.{if_then_else_, _>>=_, case, str, is, starts, index}
+use lib.Seq.{take-append-add, drop-append-add, drop-drop}
+use Rattle.text.specs.Words.{if_then_else_, case, str, is, starts, index}
 use Rattle.text.specs.Chars.{is-scalar, is-control}
-use Rattle.text.specs.Utf8.{IsScalar, Scalars, utf8, size, chars}
+use Rattle.text.specs.Utf8.{IsScalar, utf8, size, chars}
 use Rattle.text.proofs.Tests.{on, and-true}
-use Rattle.text.proofs.Laws.{scalar-true, utf8-size, advance-ascii}
+use Rattle.text.proofs.Laws.{scalar-true, utf8-size, advance-ascii, size-append, size-length}
 use Rattle.text.proofs.AsciiLaws.{Ascii}
 use Rattle.reference.specs.Unescape.{from-str-radix, names, named, reference, unescaped, unescape}
 use Rattle.reference.specs.Answers.{written}
 use Rattle.reference.proofs.SplitLaws.{Without, First, missing, here, first, chars-here}
 use Rattle.reference.proofs.NameLaws.{Word, amp, lt, gt, quot, apos, nbsp, spelling, meant, Kind, word, other, kind, named-word, named-other, plain, number-written, then-some, ensure-some}
 use Rattle.reference.proofs.AsciiNames.{named-ascii, sized, chars-all}
-use Rattle.reference.proofs.StepLaws.{reference-missing, reference-here, bytes-missing, bytes-here, near-none, near-some}
+use Rattle.reference.proofs.StepLaws.{reference-missing, reference-here, bytes-missing, bytes-here}
 
 -- ---- the character is a scalar value and no control
 word-plain : (k : Word) → is-scalar (meant k) && not (is-control (meant k)) ≡ true
@@ -127,16 +127,6 @@ replaced s c n e = by (first 59 s)
           no-control = p .1;
         }
 
--- nothing behind it counts
-pub replaced-before : (s : List ℕ) (c n : ℕ) → reference s ≡ some (c, n) → (t : List ℕ) → reference (take n s ++ t) ≡ some (c, n)
-replaced-before s c n e t = by (replaced s c n e)
-  where
-    by : IsReplaced s c n → reference (take n s ++ t) ≡ some (c, n)
-    by r =
-        let a : take n s ≡ r .name ++ 59 ∷ [] = ap (take n) (r .split) ∙ rw (r .count) (take-append-add (r .name) (59 ∷ r .after) 1) in
-        rw (a, append-assoc)
-        (reference-here (r .name) t (r .without) ∙ sym (reference-here (r .name) (r .after) (r .without)) ∙ ap reference (sym (r .split)) ∙ e)
-
 -- ---- in bytes: as many as characters, all ASCII, 10 at most
 pub record IsRead (s : List ℕ) (i c n : ℕ) : Type 0 where
   pub low : 3 ≤ n
@@ -180,20 +170,6 @@ read-is s i c n e = by (first 59 (drop i s))
           no-control = p .1;
         }
 
--- no byte past the tenth counts
-pub reference-near : (bs : List ℕ) → reference (chars bs) ≡ reference (chars (take 10 bs))
-reference-near bs = by (index (59 ∷ []) (take 10 bs)) refl
-  where
-    twice : take 10 (take 10 bs) ≡ take 10 bs
-    twice = take-take 10 10 bs (omega arith)
-
-    by : (o : Option ℕ) → index (59 ∷ []) (take 10 bs) ≡ o → reference (chars bs) ≡ reference (chars (take 10 bs))
-    by none e = near-none bs e ∙ sym (near-none (take 10 bs) (ap (index (59 ∷ [])) twice ∙ e))
-    by (some n) e =
-        near-some bs n e .step
-        ∙ ap (λ (l : List ℕ). named (take n l) >>= λ c. some (c, n + 1)) (sym twice)
-        ∙ sym (near-some (take 10 bs) n (ap (index (59 ∷ [])) twice ∙ e) .step)
-
 -- ---- `unescape`, step by step
 pub unescape-drop : (n : ℕ) (s : List ℕ) → unescape n s ≡ unescape 0 (drop n s)
 unfolding unescape
@@ -230,31 +206,7 @@ module _ (s : List ℕ) (i : ℕ) (l : i < length s) (a : getD s i 0 ≡ 38) whe
   replaced-at c n e =
       rw at-and (unescape-replaced (chars (drop (i + 1) s)) c n e ∙ ap (λ (x : List ℕ). c ∷ unescape 0 x) (read-is s (i + 1) c n e .rest))
 
--- ---- scalar values stay scalar values, and no text grows
-unescaped-scalar : (x : ℕ) (s : List ℕ) → IsScalar x → IsScalar (unescaped x s .0)
-unfolding unescaped
-unescaped-scalar x s h = on (λ (p : ℕ × ℕ). IsScalar (p .0)) (is "&" x) (λ _. by (reference s) refl) (λ _. h)
-  where
-    by : (o : Option (ℕ × ℕ)) → reference s ≡ o → IsScalar (case o (x, 0) (λ r. r) .0)
-    by none e = h
-    by (some r) e = replaced s (r .0) (r .1) e .scalar
-
-pub unescape-scalars : (n : ℕ) (s : List ℕ) → Scalars s → Scalars (unescape n s)
-unfolding unescape
-unescape-scalars n [] h = tt
-unescape-scalars (suc n) (x ∷ s) h = unescape-scalars n s (h .1)
-unescape-scalars zero (x ∷ s) h = (unescaped-scalar x s (h .0), unescape-scalars (unescaped x s .1) s (h .1))
-
-size-length : (s : List ℕ) → length s ≤ size s
-unfolding size
-size-length [] = omega arith
-size-length (x ∷ s) = omega (arith, utf8-size x, size-length s)
-
-size-append : (s t : List ℕ) → size (s ++ t) ≡ size s + size t
-unfolding size
-size-append [] t = omega arith
-size-append (x ∷ s) t = omega (arith, size-append s t)
-
+-- ---- no text grows
 unescaped-size : (x : ℕ) (s : List ℕ) → length (utf8 (unescaped x s .0)) + size (drop (unescaped x s .1) s) ≤ length (utf8 x) + size s
 unfolding unescaped
 unescaped-size x s =
@@ -287,14 +239,6 @@ unescape-size (suc n) [] = omega arith
 unescape-size (suc n) (x ∷ s) = unescape-size n s
 unescape-size zero (x ∷ s) = omega (arith, unescaped-size x s, unescape-size (unescaped x s .1) s)
 
--- ---- what has no `&` is passed over
-pub unescape-run : (u s : List ℕ) → Without 38 u → unescape 0 (u ++ s) ≡ u ++ unescape 0 s
-unescape-run [] s w = refl
-unescape-run (x ∷ u) s w = unescape-other x (u ++ s) (w .0) ∙ ap (λ (l : List ℕ). x ∷ l) (unescape-run u s (w .1))
-
-pub unescape-same : (u : List ℕ) → Without 38 u → unescape 0 u ≡ u
-unescape-same u w = ap (unescape 0) (sym (append-nil u)) ∙ unescape-run u [] w ∙ ap (λ (l : List ℕ). u ++ l) unescape-nil ∙ append-nil u
-
 -- ---- the six names
 pub reference-word : (k : Word) (s : List ℕ) → reference (str (spelling k) ++ 59 ∷ s) ≡ some (meant k, length (str (spelling k)) + 1)
 unfolding reference index named names size utf8
@@ -304,8 +248,3 @@ reference-word gt s = refl
 reference-word quot s = refl
 reference-word apos s = refl
 reference-word nbsp s = refl
-
-pub unescape-word : (k : Word) (s : List ℕ) → unescape 0 (38 ∷ str (spelling k) ++ 59 ∷ s) ≡ meant k ∷ unescape 0 s
-unescape-word k s =
-    unescape-replaced (str (spelling k) ++ 59 ∷ s) (meant k) (length (str (spelling k)) + 1) (reference-word k s)
-    ∙ ap (λ (l : List ℕ). meant k ∷ unescape 0 l) (drop-append-add (str (spelling k)) (59 ∷ s) 1)

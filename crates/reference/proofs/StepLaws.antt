@@ -2,18 +2,18 @@
 -- Assumes nothing.
 use Prim.Native.Nat.{ℕ, suc, _+_, _-_, _≤_, _<_}
 use mathlib.Core.List.{List, [], _∷_, _++_, append-assoc}
-use mathlib.Core.Logic.{_⊎_, ⊎-elim}
+use mathlib.Core.Logic.{⊎-elim}
 use mathlib.Core.Option.{none, some}
-use mathlib.Core.Path.{_≡_, refl, sym, ap, _∙_}
+use mathlib.Core.Path.{_≡_, sym, ap, _∙_}
 use borrow.Author.Tests.{leb-true, le-leb}
 use native.Mathlib.Omega.{arith}
 use lib.Dec.{leb}
 use lib.ListN.{length, take, drop, length-append, length-take, take-append-drop}
 use lib.Seq.{take-append-seam, take-append-add}
 use Rattle.text.specs.Words.{_>>=_, ensure, index}
-use Rattle.text.specs.Utf8.{utf8, encode, size, chars}
+use Rattle.text.specs.Utf8.{size, chars}
 use Rattle.text.proofs.Tests.{decide}
-use Rattle.text.proofs.Laws.{encode-chars}
+use Rattle.text.proofs.Laws.{size-chars}
 use Rattle.reference.specs.Unescape.{named, reference}
 use Rattle.reference.proofs.SplitLaws.{Without, First, missing, here, first, index-missing, index-here, chars-without, chars-here}
 use Rattle.reference.proofs.AsciiNames.{sized, sized-chars}
@@ -26,14 +26,6 @@ reference-missing s w = rw (index-missing 59 s w)
 pub reference-here : (u v : List ℕ) → Without 59 u → reference (u ++ 59 ∷ v) ≡ (ensure (leb (1 + size u) 10) >>= λ _. sized u)
 unfolding reference
 reference-here u v w = rw (index-here 59 u v w, take-append-seam u (59 ∷ v))
-
-pub size-encode : (cs : List ℕ) → size cs ≡ length (encode cs)
-unfolding size
-size-encode [] = refl
-size-encode (c ∷ cs) = rw (length-append (utf8 c) (encode cs)) (ap (λ (n : ℕ). length (utf8 c) + n) (size-encode cs))
-
-size-chars : (bs : List ℕ) → size (chars bs) ≡ length bs
-size-chars bs = size-encode (chars bs) ∙ ap length (encode-chars bs)
 
 -- on bytes
 pub bytes-missing : (bs : List ℕ) → Without 59 bs → reference (chars bs) ≡ none

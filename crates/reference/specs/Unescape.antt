@@ -3,12 +3,12 @@
 use Prim.Native.Nat.{ℕ, zero, suc, _+_, _-_, _*_}
 use Prim.Native.Char.{Char, code}
 use Prim.Native.String.{String}
-use mathlib.Core.Bool.{Bool, true, false, _&&_, _||_, not}
+use mathlib.Core.Bool.{_&&_, _||_, not}
 use mathlib.Core.List.{List, [], _∷_}
-use mathlib.Core.Option.{Option, none, some}
+use mathlib.Core.Option.{Option, some}
 use lib.ListN.{take, drop}
 use lib.Dec.{leb, ltb}
-use Rattle.text.specs.Words.{if_then_else_, _>>=_, ensure, case, is, is-empty, starts, index, find, lookup}
+use Rattle.text.specs.Words.{if_then_else_, _>>=_, ensure, case, is, is-empty, starts, find, lookup}
 use Rattle.text.specs.Chars.{within, is-digit, is-scalar, is-control}
 use Rattle.text.specs.Utf8.{size}
 

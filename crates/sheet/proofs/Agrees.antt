@@ -1,23 +1,22 @@
 -- Demand 3: for a page that is a sheet, converting gives its written form, and reading that gives exactly the blocks of its tree.
 -- Assumes nothing.
-use Prim.Native.Nat.{ℕ, _+_, _*_, _≤_, _<_}
+use Prim.Native.Nat.{ℕ, _+_, _*_, _≤_}
 use native.Mathlib.Omega.{arith}
-use mathlib.Core.Path.{_≡_, refl, sym, _∙_, ap}
+use mathlib.Core.Path.{_≡_, sym, _∙_, ap}
 use mathlib.Core.List.{List}
 use mathlib.Core.Option.{some}
 use borrow.Author.Tests.{le-ltb}
 use lib.ListN.{length}
 use Rattle.text.specs.Utf8.{size, encode}
-use Rattle.text.specs.Outcome.{Outcome, wrote}
+use Rattle.text.specs.Outcome.{wrote}
 use Rattle.text.proofs.Laws.{decode-iff, decode-encode, size-encode}
 use Rattle.html.specs.Calls.{html-to-markdown-call}
 use Rattle.records.specs.Format.{encode-blocks}
-use Rattle.markdown.specs.Blocks.{blocks}
 use Rattle.markdown.specs.Calls.{recorded, with-buffers, blocks-call}
 use Rattle.sheet.specs.Tree.{Block}
 use Rattle.sheet.specs.Written.{written, blocks-of}
 use Rattle.sheet.specs.Sheet.{IsSheet}
-use Rattle.sheet.specs.Calls.{yes-sheet, sheet-call}
+use Rattle.sheet.specs.Calls.{sheet-call, counts}
 use Rattle.sheet.proofs.TestCall.{sheet-iff}
 use Rattle.sheet.proofs.Converts.{sheet-call as converts-call}
 use Rattle.sheet.proofs.SheetReads.{sheet-reads}
@@ -60,7 +59,7 @@ module _ (page : List ℕ) (t : List Block) (sheet : IsSheet page t) where
   sheet-agrees = record { converts = converted; reads = read }
 
 -- so it is for every page that the test says yes to, and the counts are those of the Markdown
-pub test-agrees : (page : List ℕ) (b c : ℕ) → sheet-call page ≡ yes-sheet b c
+pub test-agrees : (page : List ℕ) (b c : ℕ) → counts (sheet-call page) ≡ some (b, c)
     → (t : List Block) × Agrees page t × (length (encode (written t)) ≡ b) × (length (written t) ≡ c)
 test-agrees page b c e =
     let (t, s, x, y) = sheet-iff page b c .0 e in

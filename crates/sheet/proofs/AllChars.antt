@@ -11,20 +11,19 @@ use lib.ListN.{length, length-append}
 use Rattle.text.specs.Words.{str, repeat, all}
 use Rattle.text.specs.Chars.{is-digit}
 use Rattle.text.specs.Decimal.{digits, decimal}
-use Rattle.text.proofs.Tests.{within-is}
+use Rattle.text.proofs.Tests.{within-is, and-true}
 use Rattle.html.specs.State.{special}
 use Rattle.sheet.specs.Tree.{Kind, plain, strong, em, both, code, Run, run}
 use Rattle.sheet.specs.Written.{escaped, sign, written-run, written-runs, head, item, lead, written-row}
-use Rattle.sheet.specs.Sound.{and-inv}
 
 pub all-append : (p : ℕ → Bool) (s t : List ℕ) → all p s ≡ true → all p t ≡ true → all p (s ++ t) ≡ true
 all-append p [] t e f = f
-all-append p (a ∷ s) t e f = let g = and-inv (p a) (all p s) e in rw (g .0) (all-append p s t (g .1) f)
+all-append p (a ∷ s) t e f = let g = and-true (p a) (all p s) e in rw (g .0) (all-append p s t (g .1) f)
 
 -- by a stronger test
 pub all-weaker : (p q : ℕ → Bool) → ((c : ℕ) → p c ≡ true → q c ≡ true) → (s : List ℕ) → all p s ≡ true → all q s ≡ true
 all-weaker p q h [] e = refl
-all-weaker p q h (a ∷ s) e = let g = and-inv (p a) (all p s) e in rw (h a (g .0)) (all-weaker p q h s (g .1))
+all-weaker p q h (a ∷ s) e = let g = and-true (p a) (all p s) e in rw (h a (g .0)) (all-weaker p q h s (g .1))
 
 -- ---- decimal numbers
 digit-low : (n : ℕ) → n < 10 → is-digit (48 + n) ≡ true
@@ -67,14 +66,14 @@ module _ (p : ℕ → Bool) (m : Marks p) where
   unfolding escaped
   all-escaped [] e = refl
   all-escaped (x ∷ t) e =
-      let g = and-inv (p x) (all p t) e in
+      let g = and-true (p x) (all p t) e in
       all-append p (cond (special x) (92 ∷ x ∷ []) (x ∷ [])) (escaped t) (go (special x) (g .0)) (all-escaped t (g .1))
     where
       go : (s : Bool) → p x ≡ true → all p (cond s (92 ∷ x ∷ []) (x ∷ [])) ≡ true
       go true e = rw (m .backslash, e)
       go false e = rw e
 
-  all-sign : (k : Kind) → all p (sign k) ≡ true
+  pub all-sign : (k : Kind) → all p (sign k) ≡ true
   all-sign plain = refl
   all-sign strong = rw (m .star)
   all-sign em = rw (m .star)
@@ -85,15 +84,15 @@ module _ (p : ℕ → Bool) (m : Marks p) where
   all-run k t e =
       all-append p (sign k) (escaped t ++ sign k) (all-sign k) (all-append p (escaped t) (sign k) (all-escaped t e) (all-sign k))
 
-  all-hashes : (n : ℕ) → all p (repeat n "#") ≡ true
+  pub all-hashes : (n : ℕ) → all p (repeat n "#") ≡ true
   all-hashes zero = refl
   all-hashes (suc n) = rw (m .hash) (all-hashes n)
 
-  all-blanks : (n : ℕ) → all p (repeat n "  ") ≡ true
+  pub all-blanks : (n : ℕ) → all p (repeat n "  ") ≡ true
   all-blanks zero = refl
   all-blanks (suc n) = rw (m .blank) (all-blanks n)
 
-  all-lead : (n : ℕ) → all p (lead n) ≡ true
+  pub all-lead : (n : ℕ) → all p (lead n) ≡ true
   all-lead zero = rw (m .dash, m .blank)
   all-lead (suc n) =
       all-append p (decimal (suc n)) (str ". ") (all-weaker is-digit p (m .digit) (decimal (suc n)) (decimal-all (suc n)))

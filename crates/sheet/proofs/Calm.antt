@@ -1,6 +1,6 @@
 -- No comment starts in a written form: a `!` stands only after a `\`, so never after a `<`.
 -- Assumes nothing.
-use Prim.Native.Nat.{ℕ, zero, suc}
+use Prim.Native.Nat.{ℕ}
 use native.Mathlib.Omega.{arith}
 use mathlib.Core.Path.{_≡_, refl, ap}
 use mathlib.Core.Bool.{Bool, true, false, cond, not, _&&_, and-false}
@@ -9,15 +9,13 @@ use borrow.Author.Tests.{not-true, ne-eqb}
 use lib.Dec.{eqb}
 use Rattle.text.specs.Words.{str, repeat, all, starts}
 use Rattle.text.specs.Chars.{is-digit}
-use Rattle.text.specs.Decimal.{decimal}
-use Rattle.text.proofs.Tests.{within-true}
+use Rattle.text.proofs.Tests.{within-true, and-true}
 use Rattle.html.specs.State.{special}
 use Rattle.markdown.specs.Blocks.{comment, cleaned}
-use Rattle.sheet.specs.Tree.{Kind, plain, strong, em, both, code, Run, run, Block}
+use Rattle.sheet.specs.Tree.{Kind, Run, run, Block}
 use Rattle.sheet.specs.Written.{escaped, sign, written-run, written-runs, Row, head, text, item, rows, lead, written-row, joined, written-block, written}
-use Rattle.sheet.specs.Sound.{and-inv}
 use Rattle.sheet.proofs.Facts.{ordinary}
-use Rattle.sheet.proofs.AllChars.{decimal-all}
+use Rattle.sheet.proofs.AllChars.{Marks, all-sign, all-hashes, all-blanks, all-lead}
 
 -- no ! right after a <; p: a < stands before
 unfoldable calm : Bool → List ℕ → Bool
@@ -32,7 +30,7 @@ calm-append : (s t : List ℕ) (p : Bool) → calm p s ≡ true → Safe t → c
 unfolding calm
 calm-append [] t p e g = g p
 calm-append (c ∷ s) t p e g =
-    let f = and-inv (not (p && eqb c 33)) (calm (eqb c 60) s) e in
+    let f = and-true (not (p && eqb c 33)) (calm (eqb c 60) s) e in
     rw (f .0) (calm-append s t (eqb c 60) (f .1) g)
 
 safe-append : (s t : List ℕ) → Safe s → Safe t → Safe (s ++ t)
@@ -54,8 +52,15 @@ mild c = not (eqb c 33)
 safe-mild : (s : List ℕ) → all mild s ≡ true → Safe s
 safe-mild [] e = safe-nil
 safe-mild (c ∷ s) e =
-    let f = and-inv (mild c) (all mild s) e in
+    let f = and-true (mild c) (all mild s) e in
     safe-cons c s (not-true (eqb c 33) (f .0)) (safe-mild s (f .1))
+
+digit-mild : (c : ℕ) → is-digit c ≡ true → mild c ≡ true
+digit-mild c e = let f = within-true 48 57 c e in ap not (ne-eqb c 33 (λ e. omega arith))
+
+mild-marks : Marks mild
+mild-marks =
+    record { backslash = refl; star = refl; tick = refl; hash = refl; blank = refl; dash = refl; point = refl; digit = digit-mild }
 
 safe-escape : (x : ℕ) → Safe (92 ∷ x ∷ [])
 unfolding calm
@@ -72,11 +77,7 @@ safe-escaped (x ∷ t) = safe-append (cond (special x) (92 ∷ x ∷ []) (x ∷ 
     go false e = safe-cons x [] (ordinary x e .no-bang) safe-nil
 
 safe-sign : (k : Kind) → Safe (sign k)
-safe-sign plain = safe-nil
-safe-sign strong = safe-mild (sign strong) refl
-safe-sign em = safe-mild (sign em) refl
-safe-sign both = safe-mild (sign both) refl
-safe-sign code = safe-mild (sign code) refl
+safe-sign k = safe-mild (sign k) (all-sign mild mild-marks k)
 
 safe-runs : (rs : List Run) → Safe (written-runs rs)
 unfolding written-runs
@@ -86,29 +87,10 @@ safe-runs (run k t ∷ rs) =
     (safe-append (sign k) (escaped t ++ sign k) (safe-sign k) (safe-append (escaped t) (sign k) (safe-escaped t) (safe-sign k)))
     (safe-runs rs)
 
-safe-hashes : (k : ℕ) → Safe (repeat k "#")
-safe-hashes zero = safe-nil
-safe-hashes (suc k) = safe-cons 35 (repeat k "#") refl (safe-hashes k)
-
-safe-blanks : (k : ℕ) → Safe (repeat k "  ")
-safe-blanks zero = safe-nil
-safe-blanks (suc k) = safe-cons 32 (32 ∷ repeat k "  ") refl (safe-cons 32 (repeat k "  ") refl (safe-blanks k))
-
-safe-digits : (s : List ℕ) → all is-digit s ≡ true → Safe s
-safe-digits [] e = safe-nil
-safe-digits (a ∷ s) e =
-    let f = and-inv (is-digit a) (all is-digit s) e in
-    let g = within-true 48 57 a (f .0) in
-    safe-cons a s (ne-eqb a 33 (λ e. omega arith)) (safe-digits s (f .1))
-
-safe-lead : (n : ℕ) → Safe (lead n)
-safe-lead zero = safe-mild (str "- ") refl
-safe-lead (suc n) = safe-append (decimal (suc n)) (str ". ") (safe-digits (decimal (suc n)) (decimal-all (suc n))) (safe-mild (str ". ") refl)
-
 safe-row : (r : Row) → Safe (written-row r)
-safe-row (head n l) = safe-append (repeat n "#") (32 ∷ written-runs l) (safe-hashes n) (safe-cons 32 (written-runs l) refl (safe-runs l))
+safe-row (head n l) = safe-append (repeat n "#") (32 ∷ written-runs l) (safe-mild (repeat n "#") (all-hashes mild mild-marks n)) (safe-cons 32 (written-runs l) refl (safe-runs l))
 safe-row (text l) = safe-runs l
-safe-row (item d n l) = safe-append (repeat d "  ") (lead n ++ written-runs l) (safe-blanks d) (safe-append (lead n) (written-runs l) (safe-lead n) (safe-runs l))
+safe-row (item d n l) = safe-append (repeat d "  ") (lead n ++ written-runs l) (safe-mild (repeat d "  ") (all-blanks mild mild-marks d)) (safe-append (lead n) (written-runs l) (safe-mild (lead n) (all-lead mild mild-marks n)) (safe-runs l))
 
 safe-rows : (rs : List Row) → Safe (joined (str "\n") (map written-row rs))
 unfolding joined
@@ -134,13 +116,13 @@ calm-next false d s e = refl
 no-comment : (c : ℕ) (s : List ℕ) → calm (eqb c 60) s ≡ true → starts "<!--" (c ∷ s) ≡ false
 unfolding calm
 no-comment c [] e = and-false (eqb c 60)
-no-comment c (d ∷ s) e = calm-next (eqb c 60) d s (and-inv (not (eqb c 60 && eqb d 33)) (calm (eqb d 60) s) e .0)
+no-comment c (d ∷ s) e = calm-next (eqb c 60) d s (and-true (not (eqb c 60 && eqb d 33)) (calm (eqb d 60) s) e .0)
 
 cleaned-calm : (s : List ℕ) (p : Bool) → calm p s ≡ true → cleaned 0 s ≡ s
 unfolding cleaned comment calm
 cleaned-calm [] p e = refl
 cleaned-calm (c ∷ s) p e =
-    let f = and-inv (not (p && eqb c 33)) (calm (eqb c 60) s) e in
+    let f = and-true (not (p && eqb c 33)) (calm (eqb c 60) s) e in
     rw (no-comment c s (f .1)) (ap (λ (r : List ℕ). c ∷ r) (cleaned-calm s (eqb c 60) (f .1)))
 
 pub calm-written : (bs : List Block) → cleaned 0 (written bs) ≡ written bs

@@ -3,10 +3,11 @@
 use Prim.Native.Nat.{ℕ, _≤_, _<_}
 use native.Mathlib.Omega.{arith}
 use mathlib.Core.Path.{_≡_, refl, sym, _∙_, subst}
-use mathlib.Core.Bool.{Bool, true, false, _||_, and-false}
+use mathlib.Core.Bool.{Bool, true, false, not, _||_, and-false}
 use mathlib.Core.Logic.{_⊎_, inl, inr, ⊎-elim}
 use borrow.Author.Tests.{ne-eqb, eqb-true, lt-leb}
 use lib.Dec.{eqb}
+use Rattle.text.specs.Words.{matches}
 use Rattle.text.specs.Chars.{within, is-space, is-digit, is-letter}
 use Rattle.text.proofs.Tests.{or-elim, within-true}
 use Rattle.html.specs.State.{special}
@@ -89,8 +90,22 @@ module _ (x : ℕ) (h : Letter x) where
         letter-is-not 33 (inl (omega arith)),
       )
 
+  pub letter-leading : matches "#-+>|" x ≡ false
+  letter-leading =
+      simp (
+        letter-is-not 35 (inl (omega arith)),
+        letter-is-not 45 (inl (omega arith)),
+        letter-is-not 43 (inl (omega arith)),
+        letter-is-not 62 (inl (omega arith)),
+        letter-is-not 124 (inr (inr (omega arith))),
+      )
+
   pub letter-digit : is-digit x ≡ false
   letter-digit = simp (lt-leb x 57 (omega arith), and-false)
+
+-- no space but 32
+abbrev pub inked : ℕ → Bool
+inked x = eqb x 32 || not (is-space x)
 
 -- a space is not what is no space
 pub no-space : (x b : ℕ) → is-space b ≡ true → is-space x ≡ false → eqb x b ≡ false

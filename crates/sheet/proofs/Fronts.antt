@@ -1,10 +1,10 @@
 -- What a written line starts with, and so what the block reader does not take it for: a heading, a list item, a rule, a row of a table, the
 -- continuation of an item.
 -- Assumes nothing.
-use Prim.Native.Nat.{ℕ, _+_}
+use Prim.Native.Nat.{ℕ}
 use native.Mathlib.Omega.{arith}
 use mathlib.Core.Path.{_≡_, refl, sym, _∙_, ap, subst}
-use mathlib.Core.Bool.{Bool, true, false, _&&_, _||_, and-false}
+use mathlib.Core.Bool.{Bool, true, false, _||_, and-false}
 use mathlib.Core.Logic.{inl, inr}
 use mathlib.Core.Option.{none}
 use mathlib.Core.List.{List, [], _∷_, _++_, reverse, reverse-reverse}
@@ -15,18 +15,13 @@ use Rattle.text.specs.Trim.{trim}
 use Rattle.markdown.specs.Blocks.{is-rule, marker-at, list-marker}
 use Rattle.sheet.specs.Tree.{Kind, plain, strong, em, both, code, Run, run}
 use Rattle.sheet.specs.Grammar as G
-use Rattle.sheet.specs.Grammar.{Many, stop, more, IsRun, is-run, Line, first-is, apart, first-letter, last-no-blank, neat}
+use Rattle.sheet.specs.Grammar.{Many, stop, more, IsRun, is-run, Line, first-is, first-letter}
 use Rattle.sheet.specs.Written.{escaped, sign, written-run, written-runs}
-use Rattle.sheet.specs.Sound.{and-inv}
-use Rattle.sheet.proofs.Facts.{false-true, Letter, a-letter, letter-is-not, letter-space, letter-digit}
-use Rattle.sheet.proofs.Solid.{space-first, runs-ended, escaped-first}
+use Rattle.sheet.proofs.Facts.{false-true, Letter, a-letter, letter-is-not, letter-space, letter-special, letter-digit}
+use Rattle.sheet.proofs.Conditions.{neat-of}
+use Rattle.sheet.proofs.LineEnd.{space-first, solid-drop, runs-ended}
 
 -- ---- trimming
-pub solid-drop : (s : List ℕ) → space-first s ≡ false → drop-while is-space s ≡ s
-unfolding drop-while
-solid-drop [] e = refl
-solid-drop (a ∷ s) e = rw e
-
 pub trim-start-is : (s t : List ℕ) → drop-while is-space s ≡ t → space-first (reverse t) ≡ false → trim s ≡ t
 unfolding trim-end-matches
 trim-start-is s t e f = rw e (ap reverse (solid-drop (reverse t) f) ∙ reverse-reverse t)
@@ -110,6 +105,11 @@ rule-first x s h =
       letter-is-not x h 58 (inl (omega arith)),
     )
 
+-- ---- a letter is written as it is
+escaped-first : (x : ℕ) (u : List ℕ) → is-letter x ≡ true → escaped (x ∷ u) ≡ x ∷ escaped u
+unfolding escaped
+escaped-first x u h = rw (letter-special x (a-letter x h))
+
 -- ---- a written line
 front-run : (k : Kind) (x : ℕ) (u s : List ℕ) → is-letter x ≡ true → Front (written-run (run k (x ∷ u)) ++ s)
 front-run plain x u s h = subst (λ (e : List ℕ). Front ((e ++ []) ++ s)) (sym (escaped-first x u h)) (letter-front (a-letter x h))
@@ -144,21 +144,13 @@ unfolding first-letter written-runs
 runs-good stop f = false-true f
 runs-good (more {xs = rs} (is-run {t = t} k T g) ms) f = first-good k t (written-runs rs) f
 
--- the three tests of a line's runs
-pub record Neat (rs : List Run) : Type 0 where
-  pub parted : apart rs ≡ true
-  pub first : first-letter rs ≡ true
-  pub last : last-no-blank rs ≡ true
-
-pub neat-of : (rs : List Run) → neat rs ≡ true → Neat rs
-unfolding neat
-neat-of rs f =
-    let a = and-inv (apart rs && first-letter rs) (last-no-blank rs) f in
-    let b = and-inv (apart rs) (first-letter rs) (a .0) in
-    record { parted = b .0; first = b .1; last = a .1 }
-
 pub good-of : {s r : List ℕ} {rs : List Run} → Line s rs r → Good (written-runs rs)
 good-of {rs = rs} (G.line m f) =
     let n = neat-of rs f in
     let g = runs-good m (n .first) in
-    record { front = g .0; unruled = g .1; last = runs-ended m (n .last) [] }
+    record { front = g .0; unruled = g .1; last = runs-ended m (n .last) [] .solid }
+
+-- ---- what follows does not change how it starts
+pub first-append : (x y : List ℕ) → is-empty x ≡ false → space-first (x ++ y) ≡ space-first x
+first-append [] y e = false-true (sym e)
+first-append (a ∷ x) y e = refl

@@ -1,3 +1,12 @@
+-- The laws of the definitions.
+pub mod Facts
+pub mod Conditions
+pub mod AllChars
+pub mod ReadingLaws
+pub mod Sound
+pub mod Shrinks
+pub mod Complete
+-- Demand 3: what the converter makes of a sheet.
 pub mod Turns
 pub mod Tags
 pub mod TextOut
@@ -7,20 +16,18 @@ pub mod LineOut
 pub mod LineEnd
 pub mod ListOut
 pub mod PageOut
+pub mod Fronts
 pub mod Trimmed
+pub mod ReadBack
+pub mod WrittenSize
 pub mod PageSize
 pub mod Converts
-pub mod Facts
-pub mod AllChars
-pub mod ReadBack
-pub mod Solid
-pub mod Fronts
+-- And what the block reader makes of that.
 pub mod PageRead
 pub mod EachLine
 pub mod WrittenLines
 pub mod ReadAll
 pub mod Calm
-pub mod WrittenSize
 pub mod Places
 pub mod SheetReads
 pub mod SheetScalars

@@ -2,29 +2,36 @@
 -- Assumes nothing.
 use Prim.Native.Nat.{ℕ}
 use mathlib.Core.Path.{_≡_, refl, sym, _∙_, ap, subst}
-use mathlib.Core.Bool.{Bool, true, false, not, _&&_, _||_, cond}
+use mathlib.Core.Bool.{Bool, true, false, not, _||_, cond}
 use mathlib.Core.List.{List, [], _∷_, _++_, reverseAux, reverseAux-append, append-nil}
 use borrow.Author.Tests.{not-true}
 use lib.Dec.{eqb}
-use Rattle.text.specs.Words.{str, is, drop-while}
+use Rattle.text.specs.Words.{str, is, all, drop-while}
 use Rattle.text.specs.Chars.{is-space}
+use Rattle.text.proofs.Tests.{and-true}
 use Rattle.html.specs.State.{line-start, special, block, newline}
 use Rattle.html.specs.Page.{loop}
 use Rattle.sheet.specs.Tree.{plain, strong, em, both, code, Run, run}
 use Rattle.sheet.specs.Grammar as G
-use Rattle.sheet.specs.Grammar.{NL, Many, stop, more, IsRun, is-run, Line, last-is, no-blank, apart, first-letter, last-no-blank, neat}
+use Rattle.sheet.specs.Grammar.{NL, Many, stop, more, IsRun, is-run, Line, last-is, no-blank, last-no-blank}
 use Rattle.sheet.specs.Written.{escaped, written-run, written-runs}
-use Rattle.sheet.specs.Sound.{and-inv}
+use Rattle.sheet.proofs.Facts.{false-true, inked}
+use Rattle.sheet.proofs.Conditions.{neat-of}
 use Rattle.sheet.proofs.Turns.{Low}
 use Rattle.sheet.proofs.Tags.{st}
 use Rattle.sheet.proofs.TextOut.{begins, inline, line-start-is, shielded, held, not-newline}
 use Rattle.sheet.proofs.RunOut.{Tail, wrapped, nl-loop}
-use Rattle.sheet.proofs.Source.{false-true, valid, valid-of}
+use Rattle.sheet.proofs.Source.{inked-text}
 use Rattle.sheet.proofs.LineOut.{line-out}
 
 abbrev pub space-first : List ℕ → Bool
 space-first [] = false
 space-first (a ∷ v) = is-space a
+
+pub solid-drop : (s : List ℕ) → space-first s ≡ false → drop-while is-space s ≡ s
+unfolding drop-while
+solid-drop [] e = refl
+solid-drop (a ∷ s) e = rw e
 
 -- the output v ends a line's text
 pub record Ended (v : List ℕ) : Type 0 where
@@ -32,7 +39,7 @@ pub record Ended (v : List ℕ) : Type 0 where
   pub is-inline : inline v ≡ true
   pub solid : space-first v ≡ false
 
-last-char : (x : ℕ) (o : List ℕ) → eqb x 32 ≡ false → (eqb x 32 || not (is-space x)) ≡ true → Ended (reverseAux (shielded x ++ []) o)
+last-char : (x : ℕ) (o : List ℕ) → eqb x 32 ≡ false → inked x ≡ true → Ended (reverseAux (shielded x ++ []) o)
 unfolding begins inline
 last-char x o e v = go (special x)
   where
@@ -46,13 +53,13 @@ last-char x o e v = go (special x)
     go true = record { no-space = e; is-inline = n; solid = w }
     go false = record { no-space = e; is-inline = n; solid = w }
 
-text-ended : (t o : List ℕ) → valid t ≡ true → last-is no-blank t ≡ true → Ended (reverseAux (escaped t) o)
-unfolding valid last-is escaped
+text-ended : (t o : List ℕ) → all inked t ≡ true → last-is no-blank t ≡ true → Ended (reverseAux (escaped t) o)
+unfolding last-is escaped
 text-ended [] o v f = false-true f
-text-ended (x ∷ []) o v f = last-char x o (not-true (eqb x 32) f) (and-inv (eqb x 32 || not (is-space x)) true v .0)
+text-ended (x ∷ []) o v f = last-char x o (not-true (eqb x 32) f) (and-true (inked x) true v .0)
 text-ended (x ∷ y ∷ t) o v f =
     subst Ended (sym (reverseAux-append (shielded x) (escaped (y ∷ t)) o))
-    (text-ended (y ∷ t) (reverseAux (shielded x) o) (and-inv (eqb x 32 || not (is-space x)) (valid (y ∷ t)) v .1) f)
+    (text-ended (y ∷ t) (reverseAux (shielded x) o) (and-true (inked x) (all inked (y ∷ t)) v .1) f)
 
 star-ended : (w : List ℕ) → Ended (42 ∷ w)
 unfolding begins inline is-space
@@ -64,7 +71,7 @@ tick-ended w = record { no-space = refl; is-inline = refl; solid = refl }
 
 run-ended : {s m : List ℕ} {x : Run} → IsRun s x m → last-no-blank (x ∷ []) ≡ true → (o : List ℕ) → Ended (reverseAux (written-run x) o)
 unfolding last-no-blank
-run-ended (is-run {t = t} plain (G.text m) g) f o = subst (λ (x : List ℕ). Ended (reverseAux x o)) (sym (append-nil (escaped t))) (text-ended t o (valid-of m) f)
+run-ended (is-run {t = t} plain (G.text m) g) f o = subst (λ (x : List ℕ). Ended (reverseAux x o)) (sym (append-nil (escaped t))) (text-ended t o (inked-text m) f)
 run-ended (is-run {t = t} strong T g) f o = subst Ended (wrapped (str "**") t o) (star-ended _)
 run-ended (is-run {t = t} em T g) f o = subst Ended (wrapped (str "*") t o) (star-ended _)
 run-ended (is-run {t = t} both T g) f o = subst Ended (wrapped (str "***") t o) (star-ended _)
@@ -75,7 +82,7 @@ unfolding last-no-blank written-runs
 ended-step (run k t) [] h ih f o = subst (λ (x : List ℕ). Ended (reverseAux x o)) (sym (append-nil (written-run (run k t)))) (run-ended h f o)
 ended-step (run k t) (run l u ∷ rs) h ih f o = subst Ended (sym (reverseAux-append (written-run (run k t)) (written-runs (run l u ∷ rs)) o)) (ih f (reverseAux (written-run (run k t)) o))
 
-runs-ended : {s r : List ℕ} {rs : List Run} → Many IsRun s rs r → last-no-blank rs ≡ true → (o : List ℕ) → Ended (reverseAux (written-runs rs) o)
+pub runs-ended : {s r : List ℕ} {rs : List Run} → Many IsRun s rs r → last-no-blank rs ≡ true → (o : List ℕ) → Ended (reverseAux (written-runs rs) o)
 unfolding last-no-blank
 runs-ended stop f o = false-true f
 runs-ended (more {x = x} {xs = rs} h ms) f o = ended-step x rs h (λ f o. runs-ended ms f o) f o
@@ -86,12 +93,10 @@ pub record LineDone (l : List ℕ) (s : List ℕ) (rs : List Run) (r o : List �
   pub ended : Ended (reverseAux (written-runs rs) o)
 
 pub line-done : (l : List ℕ) {s r : List ℕ} {rs : List Run} → Line s rs r → Tail r → (o : List ℕ) → LineDone l s rs r o
-unfolding neat
 line-done l {r = r} {rs = rs} (G.line m f) z o =
-    let a = and-inv (apart rs && first-letter rs) (last-no-blank rs) f in
-    let b = and-inv (apart rs) (first-letter rs) (a .0) in
-    let d = runs-ended m (a .1) o in
-    record { eq = λ h. line-out l m (b .0) (b .1) z o h ∙ ap (loop 0 r) (held l (reverseAux (written-runs rs) o) (d .no-space)); ended = d }
+    let n = neat-of rs f in
+    let d = runs-ended m (n .last) o in
+    record { eq = λ h. line-out l m (n .parted) (n .first) z o h ∙ ap (loop 0 r) (held l (reverseAux (written-runs rs) o) (d .no-space)); ended = d }
 
 -- at the start of a line
 abbrev pub nlx : List ℕ → List ℕ

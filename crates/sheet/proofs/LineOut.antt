@@ -4,21 +4,24 @@ use Prim.Native.Nat.{ℕ}
 use native.Mathlib.Omega.{arith}
 use mathlib.Core.Path.{_≡_, refl, sym, _∙_, ap, subst}
 use mathlib.Core.Bool.{Bool, true, false, not, cond, and-false}
+use mathlib.Core.Logic.{inl}
 use mathlib.Core.List.{List, [], _∷_, _++_, reverseAux, reverseAux-append, append-nil}
 use lib.Dec.{eqb}
 use Rattle.text.specs.Words.{str}
 use Rattle.text.specs.Chars.{is-space, is-letter}
+use Rattle.text.proofs.Tests.{and-true}
 use Rattle.html.specs.State.{State, spaced, ends-with-digit, escape, put, next, put-all}
 use Rattle.html.specs.Page.{loop}
 use Rattle.sheet.specs.Tree.{Kind, plain, strong, em, both, code, Run, run}
 use Rattle.sheet.specs.Grammar.{Many, stop, more, Text, IsRun, is-run, first-is, last-is, no-blank, fits, touch, apart, first-letter, before, after}
 use Rattle.sheet.specs.Written.{escaped, written-run, written-runs}
-use Rattle.sheet.specs.Sound.{and-inv}
+use Rattle.sheet.proofs.Facts.{false-true, Letter, a-letter, letter-is-not, letter-space, letter-special, letter-leading}
+use Rattle.sheet.proofs.Conditions.{InTags, ends-of}
 use Rattle.sheet.proofs.Turns.{Low, low-front}
 use Rattle.sheet.proofs.Tags.{st}
 use Rattle.sheet.proofs.TextOut.{begins, inline, singly, hold, held, hold-spaced, put-text}
 use Rattle.sheet.proofs.RunOut.{Tail, tag, Ready, text-out, run-plain, ran, wrapped, run-strong, run-em, run-code, run-both}
-use Rattle.sheet.proofs.Source.{false-true, Known, known, InTags, ends-of, Letter, a-letter, no-letter, letter-space, letter-special, letter-leading}
+use Rattle.sheet.proofs.Source.{Known, known}
 
 -- where a plain run ends, a tag stands, or the line ends
 at-tag : {m r : List ℕ} {rs : List Run} (t : List ℕ) → Many IsRun m rs r → apart (run plain t ∷ rs) ≡ true → Tail r → Tail m
@@ -114,7 +117,7 @@ module _ (l : List ℕ) where
   unfolding apart written-runs
   runs-out stop z k t₀ v a g = λ h. refl
   runs-out {r = r} (more {m = m} {xs = rs} (is-run {s = s} {t = t} j T f) ms) z k t₀ v a g =
-      let i = and-inv (not (touch k j)) (apart (run j t ∷ rs)) a in
+      let i = and-true (not (touch k j)) (apart (run j t ∷ rs)) a in
       let w = reverseAux (written-run (run j t)) v in
       joins (before j ++ s) m r (hold l v) (run j t) rs v
       (run-out s t m j T f k v (i .0) g (λ e. at-tag t ms (subst (λ (j : Kind). apart (run j t ∷ rs) ≡ true) e (i .1)) z))
@@ -126,7 +129,7 @@ module _ (x : ℕ) (h : Letter x) where
   -- at the start of a line a letter is written as it is
   next-letter : (l o : List ℕ) → next true x (st l o false) ≡ (false, st l (x ∷ o) false)
   unfolding next spaced put escape
-  next-letter l o = simp (letter-space x h, letter-special x h, letter-leading x h, no-letter x h 46 (λ e. omega arith), and-false)
+  next-letter l o = simp (letter-space x h, letter-special x h, letter-leading x h, letter-is-not x h 46 (inl (omega arith)), and-false)
 
   escaped-letter : (t o : List ℕ) → reverseAux (escaped t) (x ∷ o) ≡ reverseAux (escaped (x ∷ t)) o
   unfolding escaped
@@ -134,15 +137,15 @@ module _ (x : ℕ) (h : Letter x) where
 
   letter-held : (l o : List ℕ) → st l (x ∷ o) false ≡ hold l (x ∷ o)
   unfolding begins
-  letter-held l o = sym (held l (x ∷ o) (no-letter x h 32 (λ e. omega arith)))
+  letter-held l o = sym (held l (x ∷ o) (letter-is-not x h 32 (inl (omega arith))))
 
   letter-inline : (o : List ℕ) → inline (x ∷ o) ≡ true
   unfolding inline begins
-  letter-inline o = ap not (no-letter x h 10 (λ e. omega arith))
+  letter-inline o = ap not (letter-is-not x h 10 (inl (omega arith)))
 
   after-letter : (t o : List ℕ) → singly false (x ∷ t) ≡ true → singly (begins 32 (x ∷ o)) t ≡ true
   unfolding singly begins
-  after-letter t o w = and-inv (cond (eqb x 32) true (not (is-space x))) (singly (eqb x 32) t) w .1
+  after-letter t o w = and-true (cond (eqb x 32) true (not (is-space x))) (singly (eqb x 32) t) w .1
 
   put-letter : (l t o : List ℕ) → singly false (x ∷ t) ≡ true → put-all true (x ∷ t) (st l o false) ≡ hold l (reverseAux (escaped (x ∷ t)) o)
   unfolding put-all

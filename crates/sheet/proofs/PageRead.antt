@@ -1,6 +1,6 @@
 -- Reading one line of a sheet's written form: a paragraph, a heading, an item.
 -- Assumes nothing.
-use Prim.Native.Nat.{ℕ, zero, suc, _+_, _-_, _*_, _/_, _≤_, min}
+use Prim.Native.Nat.{ℕ, zero, suc, _*_, _/_, _≤_, min}
 use native.Mathlib.Omega.{arith}
 use mathlib.Core.Path.{_≡_, refl, sym, _∙_, ap}
 use mathlib.Core.Bool.{true, false}
@@ -12,14 +12,14 @@ use Rattle.text.specs.Words.{str, repeat, is, is-empty, all, starts, take-while
 use Rattle.text.specs.Chars.{is-space, is-digit}
 use Rattle.text.specs.Utf8.{size, utf8}
 use Rattle.text.specs.Trim.{trim}
-use Rattle.text.proofs.Tests.{within-true, within-is}
+use Rattle.text.proofs.Tests.{within-true, within-is, and-true}
 use Rattle.records.specs.Blocks.{Block, Heading, Paragraph, Item}
 use Rattle.spans.specs.Spans.{spans}
 use Rattle.markdown.specs.Blocks.{Marked, marker-at, list-marker, Reader, reader, flush, heading, paragraph, read-text, read-line}
-use Rattle.sheet.specs.Sound.{and-inv}
+use Rattle.markdown.proofs.Basics.{not-empty}
 use Rattle.sheet.proofs.Facts.{false-true, visible}
-use Rattle.sheet.proofs.Solid.{space-first}
-use Rattle.sheet.proofs.Fronts.{solid-drop, trim-start-is, trim-id, front-hash, front-bar, front-blank, front-empty, front-solid, front-marker, bulleted, no-rule, Good}
+use Rattle.sheet.proofs.LineEnd.{space-first, solid-drop}
+use Rattle.sheet.proofs.Fronts.{first-append, trim-start-is, trim-id, front-hash, front-bar, front-blank, front-empty, front-solid, front-marker, bulleted, no-rule, Good}
 
 -- ---- paragraphs
 pub read-para : (b : List Block) (w : List ℕ) → Good w → read-line (reader b []) w ≡ reader b w
@@ -41,14 +41,6 @@ pub filled-append : (a b : List ℕ) → is-empty b ≡ false → is-empty (a ++
 filled-append [] b e = e
 filled-append (x ∷ a) b e = refl
 
-first-append : (x y : List ℕ) → is-empty x ≡ false → space-first (x ++ y) ≡ space-first x
-first-append [] y e = false-true (sym e)
-first-append (a ∷ x) y e = refl
-
-pub some-empty : (x : List ℕ) → 1 ≤ length x → is-empty x ≡ false
-some-empty [] h = absurd (omega arith)
-some-empty (a ∷ x) h = refl
-
 pub empty-some : (x : List ℕ) → is-empty x ≡ false → 1 ≤ length x
 empty-some [] e = false-true (sym e)
 empty-some (a ∷ x) e = omega arith
@@ -56,7 +48,7 @@ empty-some (a ∷ x) e = omega arith
 last-append : (a w : List ℕ) → Good w → space-first (reverse (a ++ w)) ≡ false
 last-append a w g =
     ap space-first (reverse-append a w)
-    ∙ first-append (reverse w) (reverse a) (some-empty (reverse w) (omega (arith, length-reverse w, empty-some w (front-empty (g .front)))))
+    ∙ first-append (reverse w) (reverse a) (not-empty (reverse w) (omega (arith, length-reverse w, empty-some w (front-empty (g .front)))))
     ∙ g .last
 
 -- ---- headings
@@ -73,7 +65,7 @@ unfolding drop-while
 drop-hashes zero w = refl
 drop-hashes (suc k) w = drop-hashes k w
 
-length-hashes : (k : ℕ) → length (hashes k) ≡ k
+pub length-hashes : (k : ℕ) → length (hashes k) ≡ k
 length-hashes zero = refl
 length-hashes (suc k) = ap suc (length-hashes k)
 
@@ -87,10 +79,6 @@ heading-is b k w h g =
     let m : min k 3 ≡ k = omega arith in
     rw (take-hashes k w, drop-hashes k w, length-hashes k, le-leb k 6 (omega arith), trim-blank w g, m)
 
-hash-solid : is-space 35 ≡ false
-unfolding is-space
-hash-solid = refl
-
 read-hash : (r : Reader) (l : List ℕ) → trim l ≡ l → is-empty l ≡ false → starts "#" l ≡ true → read-line r l ≡ heading l r
 unfolding read-line
 read-hash r l e f g = rw (e, f, g)
@@ -102,7 +90,7 @@ read-heading b (suc k) w lo hi g =
     let e : space-first (reverse l) ≡ false =
     ap (λ (s : List ℕ). space-first (reverse s)) (sym (append-assoc (hashes (suc k)) (32 ∷ []) w)) ∙ last-append (hashes (suc k) ++ (32 ∷ [])) w g
     in
-    read-hash (reader b []) l (trim-id l hash-solid e) refl refl ∙ heading-is b (suc k) w hi g
+    read-hash (reader b []) l (trim-id l (visible 35 (omega arith) (omega arith)) e) refl refl ∙ heading-is b (suc k) w hi g
 
 -- ---- items
 abbrev pub blanks : ℕ → List ℕ
@@ -152,25 +140,21 @@ marked-dash : (i : ℕ) (w : List ℕ) → Good w → marker-at i (45 ∷ 32 ∷
 unfolding marker-at
 marked-dash i w g = rw (good-trim w g)
 
-dash-solid : is-space 45 ≡ false
-unfolding is-space
-dash-solid = refl
-
 pub read-dash : (b : List Block) (d : ℕ) (w : List ℕ) → Good w → read-line (reader b []) (blanks d ++ (45 ∷ 32 ∷ w)) ≡ reader (Item d (str "•") (spans w) ∷ b) []
 read-dash b d w g =
-    read-marked b d (45 ∷ 32 ∷ w) _ (record { first = dash-solid; last = last-append (45 ∷ 32 ∷ []) w g; filled = refl; no-hash = refl }) (marked-dash (2 * d) w g)
+    read-marked b d (45 ∷ 32 ∷ w) _ (record { first = visible 45 (omega arith) (omega arith); last = last-append (45 ∷ 32 ∷ []) w g; filled = refl; no-hash = refl }) (marked-dash (2 * d) w g)
     ∙ ap (λ (d : ℕ). reader (Item d (str "•") (spans w) ∷ b) []) (half d)
 
 -- ---- decimal numbers
 take-digits : (s t : List ℕ) → all is-digit s ≡ true → take-while is-digit (s ++ (46 ∷ t)) ≡ s
 unfolding take-while
 take-digits [] t e = refl
-take-digits (a ∷ s) t e = let f = and-inv (is-digit a) (all is-digit s) e in rw (f .0, take-digits s t (f .1))
+take-digits (a ∷ s) t e = let f = and-true (is-digit a) (all is-digit s) e in rw (f .0, take-digits s t (f .1))
 
 drop-digits : (s t : List ℕ) → all is-digit s ≡ true → drop-while is-digit (s ++ (46 ∷ t)) ≡ 46 ∷ t
 unfolding drop-while
 drop-digits [] t e = refl
-drop-digits (a ∷ s) t e = let f = and-inv (is-digit a) (all is-digit s) e in rw (f .0) (drop-digits s t (f .1))
+drop-digits (a ∷ s) t e = let f = and-true (is-digit a) (all is-digit s) e in rw (f .0) (drop-digits s t (f .1))
 
 -- it starts with a digit
 record Number (s : List ℕ) : Type 0 where
@@ -183,7 +167,7 @@ record Number (s : List ℕ) : Type 0 where
 number : (s : List ℕ) → 1 ≤ length s → all is-digit s ≡ true → Number s
 number [] h e = absurd (omega arith)
 number (a ∷ s) h e =
-    let g = within-true 48 57 a (and-inv (is-digit a) (all is-digit s) e .0) in
+    let g = within-true 48 57 a (and-true (is-digit a) (all is-digit s) e .0) in
     record { first = a; others = s; is-first = refl; low = g .0; high = g .1 }
 
 -- and so with no mark of another kind

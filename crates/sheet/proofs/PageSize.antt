@@ -3,26 +3,20 @@
 use Prim.Native.Nat.{ℕ, zero, suc, _+_, _*_, _≤_, min}
 use native.Mathlib.Omega.{arith}
 use mathlib.Core.Path.{_≡_, _∙_, ap}
-use mathlib.Core.Bool.{Bool, true, false, _&&_, cond}
+use mathlib.Core.Bool.{true}
 use mathlib.Core.List.{List, [], _∷_, _++_, map}
-use lib.ListN.{length}
-use Rattle.text.specs.Words.{str, repeat}
+use Rattle.text.specs.Words.{str}
 use Rattle.text.specs.Chars.{is-letter}
 use Rattle.text.specs.Utf8.{utf8, size}
-use Rattle.text.proofs.Laws.{utf8-size}
-use Rattle.html.specs.State.{special}
+use Rattle.text.proofs.Laws.{utf8-size, size-append}
 use Rattle.sheet.specs.Tree.{Kind, plain, strong, em, both, code, Run, run, Mark, ul, ol, Items, Item, items, Block, heading, para, list}
 use Rattle.sheet.specs.Grammar as G
-use Rattle.sheet.specs.Grammar.{NL, Char, Many, stop, more, Text, IsRun, is-run, Line, ThenNL, IsItem, is-alone, is-with, ListOf, IsList, IsBlock, is-heading, is-para, IsPage, concat, first-is, apart, first-letter, last-no-blank, neat, before, after, opens, closes, opens-h, closes-h}
-use Rattle.sheet.specs.Written.{escaped, sign, written-run, written-runs, Row, item, place, lead, rows-from, rows, written-row, joined, written-block, written}
-use Rattle.sheet.specs.Sound.{and-inv}
-use Rattle.sheet.proofs.Source.{false-true}
+use Rattle.sheet.specs.Grammar.{NL, Char, Many, stop, more, Text, IsRun, is-run, Line, ThenNL, IsItem, is-alone, is-with, ListOf, IsList, IsBlock, is-heading, is-para, IsPage, concat, first-is, first-letter, before, after, opens, closes, opens-h, closes-h}
+use Rattle.sheet.specs.Written.{sign, written-run, written-runs, Row, place, rows-from, rows, written-row, joined, written-block, written}
+use Rattle.sheet.proofs.Facts.{false-true}
+use Rattle.sheet.proofs.Conditions.{neat-of}
+use Rattle.sheet.proofs.WrittenSize.{size-run, size-item, size-head}
 use Rattle.sheet.proofs.ListOut.{own-row, sub-rows, rows-cons}
-
-pub size-append : (s t : List ℕ) → size (s ++ t) ≡ size s + size t
-unfolding size
-size-append [] t = omega arith
-size-append (a ∷ s) t = omega (arith, size-append s t)
 
 -- a text
 
@@ -43,15 +37,6 @@ chars-size (more {x = q} {xs = qs} c t) = omega (arith, char-size c, chars-size 
 text-size : {s t r : List ℕ} → Text s t r → size s ≤ size r + 6 * size t
 text-size (G.text m) = chars-size m
 
-escaped-size : (t : List ℕ) → size t ≤ size (escaped t)
-unfolding size escaped
-escaped-size [] = omega arith
-escaped-size (c ∷ t) = go (special c) (escaped-size t)
-  where
-    go : (b : Bool) → size t ≤ size (escaped t) → length (utf8 c) + size t ≤ size (cond b (92 ∷ c ∷ []) (c ∷ []) ++ escaped t)
-    go true h = omega arith
-    go false h = omega arith
-
 -- a run, whose tags take 7 bytes or fewer for each byte of its signs
 
 tags-size : (k : Kind) → size (before k) + size (after k) ≤ 7 * size (sign k) + 7 * size (sign k)
@@ -62,11 +47,8 @@ tags-size em = omega arith
 tags-size both = omega arith
 tags-size code = omega arith
 
-written-run-size : (k : Kind) (t : List ℕ) → size (sign k) + size (sign k) + size t ≤ size (written-run (run k t))
-written-run-size k t = omega (arith, size-append (sign k) (escaped t ++ sign k), size-append (escaped t) (sign k), escaped-size t)
-
 run-size : {s r : List ℕ} {x : Run} → IsRun s x r → size s ≤ size r + 7 * size (written-run x)
-run-size {r = r} (is-run {s = s} {t = t} k T f) = omega (arith, size-append (before k) s, size-append (after k) r, text-size T, tags-size k, written-run-size k t)
+run-size {r = r} (is-run {s = s} {t = t} k T f) = omega (arith, size-append (before k) s, size-append (after k) r, text-size T, tags-size k, size-run k t)
 
 runs-size : {s r : List ℕ} {rs : List Run} → Many IsRun s rs r → size s ≤ size r + 7 * size (written-runs rs)
 unfolding written-runs size
@@ -83,16 +65,14 @@ text-full (a ∷ t) f = omega (arith, utf8-size a .0)
 runs-full : (rs : List Run) → first-letter rs ≡ true → 1 ≤ size (written-runs rs)
 unfolding first-letter written-runs
 runs-full [] f = false-true f
-runs-full (run k t ∷ rs) f = omega (arith, text-full t f, written-run-size k t, size-append (written-run (run k t)) (written-runs rs))
+runs-full (run k t ∷ rs) f = omega (arith, text-full t f, size-run k t, size-append (written-run (run k t)) (written-runs rs))
 
 record LineSize (s : List ℕ) (rs : List Run) (r : List ℕ) : Type 0 where
   most : size s ≤ size r + 7 * size (written-runs rs)
   full : 1 ≤ size (written-runs rs)
 
 line-size : {s r : List ℕ} {rs : List Run} → Line s rs r → LineSize s rs r
-unfolding neat
-line-size {rs = rs} (G.line m f) =
-    record { most = runs-size m; full = runs-full rs (and-inv (apart rs) (first-letter rs) (and-inv (apart rs && first-letter rs) (last-no-blank rs) f .0) .1) }
+line-size {rs = rs} (G.line m f) = record { most = runs-size m; full = runs-full rs (neat-of rs f .first) }
 
 nl-size : {s r : List ℕ} → NL s r → size s ≤ size r + 1
 unfolding size utf8
@@ -119,9 +99,6 @@ joined-weight : (rs : List Row) → weight rs ≤ size (joined (str "\n") (map w
 unfolding weight
 joined-weight [] = omega arith
 joined-weight (r ∷ rs) = omega (arith, joined-weight rs, joined-size (str "\n") (written-row r) (map written-row rs))
-
-row-size : (d n : ℕ) (l : List Run) → size (written-runs l) ≤ size (written-row (item d n l))
-row-size d n l = omega (arith, size-append (repeat d "  ") (lead n ++ written-runs l), size-append (lead n) (written-runs l))
 
 -- an item with its list, and a list: each list's tags are paid for by the item that it stands in
 
@@ -159,13 +136,13 @@ module _ (L : List ℕ → Mark → Items → List ℕ → Type 0) (lists : List
   unfolding weight
   item-size (is-alone {s = s} {r = r} {l = l} ln) d m n =
       let g = line-size ln in
-      record { most = omega (arith, li-size s, li/-size r, g .most, g .full, row-size d (place m n) l); full = omega (arith, g .full, row-size d (place m n) l) }
+      record { most = omega (arith, li-size s, li/-size r, g .most, g .full, size-item d (place m n) l); full = omega (arith, g .full, size-item d (place m n) l) }
   item-size (is-with {s = s} {s₂ = s₂} {s₃ = s₃} {r = r} {l = l} {m = k} {its = its} ln a q b) d m n =
       let g = line-size ln in
       let j = lists s₂ k its s₃ q (suc d) in
       record {
-        most = omega (arith, li-size s, li/-size r, g .most, g .full, row-size d (place m n) l, nl-size a, nl-size b, j .most);
-        full = omega (arith, g .full, row-size d (place m n) l);
+        most = omega (arith, li-size s, li/-size r, g .most, g .full, size-item d (place m n) l, nl-size a, nl-size b, j .most);
+        full = omega (arith, g .full, size-item d (place m n) l);
       }
 
   items-size : {s r : List ℕ} {xs : List Item} → Many (ThenNL (IsItem L)) s xs r → (d : ℕ) (m : Mark) (n : ℕ) → size s ≤ size r + 30 * weight (rows-from d m n (items xs))
@@ -204,7 +181,7 @@ para-tags s = (omega arith, omega arith)
 
 heading-block : (n : ℕ) (l : List Run) → size (written-runs l) ≤ size (written-block (heading n l))
 unfolding joined rows
-heading-block n l = omega (arith, size-append (repeat (min n 3) "#") (str " " ++ written-runs l), size-append (str " ") (written-runs l))
+heading-block n l = omega (arith, size-head (min n 3) l)
 
 para-block : (l : List Run) → size (written-runs l) ≤ size (written-block (para l))
 unfolding joined rows

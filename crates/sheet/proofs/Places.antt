@@ -14,7 +14,7 @@ use Rattle.text.specs.Decimal.{digits, decimal}
 use Rattle.sheet.specs.Tree.{Mark, ul, ol, Items, end, leaf, node, items, Block}
 use Rattle.sheet.specs.Written.{Row, place, rows-from, rows, written-row, joined, written-block, written}
 use Rattle.sheet.proofs.PageRead.{empty-some}
-use Rattle.sheet.proofs.WrittenSize.{length-size}
+use Rattle.text.proofs.Laws.{size-length}
 use Rattle.sheet.proofs.EachLine.{Lines, a-heading, a-para, a-list, Each}
 use Rattle.sheet.proofs.EachLine as E
 use Rattle.sheet.proofs.WrittenLines.{GoodRuns, Rows, entry-rows}
@@ -89,4 +89,4 @@ shorts (b ∷ c ∷ bs) (E.one h e) l =
     (block-short h (omega arith), shorts (c ∷ bs) e (omega arith))
 
 pub places-short : (bs : List Block) → Each GoodRuns bs → size (written bs) < 16000 → Shorts bs
-places-short bs g l = shorts bs g (omega (arith, length-size (written bs)))
+places-short bs g l = shorts bs g (omega (arith, size-length (written bs)))

@@ -1,7 +1,7 @@
 -- Reading a written line gives its runs' spans. Between two texts stand k stars: k / 2 turns of bold, then k % 2 turns of italic, and only
 -- where two runs with italic touch does that not end the one and begin the other.
 -- Assumes nothing.
-use Prim.Native.Nat.{ℕ, suc, _+_, _<_}
+use Prim.Native.Nat.{ℕ, suc}
 use native.Mathlib.Omega.{arith}
 use native.Mathlib.Numerals.{add-one}
 use mathlib.Core.Path.{_≡_, refl, sym, _∙_, ap, subst}
@@ -12,16 +12,18 @@ use mathlib.Core.List.{List, [], _∷_, _++_, map, reverse, reverseAux, append-n
 use lib.ListN.{length, length-reverse}
 use lib.Seq.{take-append-seam, append-snoc}
 use borrow.Author.Tests.{not-true}
-use Rattle.text.specs.Words.{starts, is-empty, index, find}
+use Rattle.text.specs.Words.{starts, index, find}
+use Rattle.text.proofs.Tests.{and-true}
 use Rattle.html.specs.State.{special}
 use Rattle.records.specs.Blocks.{Span}
 use Rattle.spans.specs.Spans as S
 use Rattle.spans.specs.Spans.{Walk, at, push, cleared, flush, kept, code-step, star-step, step, walk, spans-at, spans}
+use Rattle.markdown.proofs.Basics.{not-empty}
 use Rattle.sheet.specs.Tree.{Kind, plain, strong, em, both, code, Run, run}
-use Rattle.sheet.specs.Grammar.{first-is, none-of, singles, edges, fits, touch, apart}
+use Rattle.sheet.specs.Grammar.{none-of, fits, touch, apart}
 use Rattle.sheet.specs.Written.{span, escaped, sign, written-run, written-runs}
-use Rattle.sheet.specs.Sound.{and-inv}
 use Rattle.sheet.proofs.Facts.{true-false, ordinary}
+use Rattle.sheet.proofs.Conditions.{filled, code-text}
 
 -- ---- texts
 -- an ordinary character is kept
@@ -30,10 +32,10 @@ unfolding step
 step-kept w b s e = let o = ordinary b e in rw (o .no-backslash, o .no-tick, o .no-star, o .no-bracket, o .no-bang)
 
 no-escape : (u : List ℕ) → none-of special u ≡ true → escaped u ≡ u
-unfolding none-of escaped
+unfolding escaped
 no-escape [] e = refl
 no-escape (b ∷ u) e =
-    let f = and-inv (not (special b)) (none-of special u) e in
+    let f = and-true (not (special b)) (none-of special u) e in
     rw (not-true (special b) (f .0), no-escape u (f .1))
 
 -- what a text that is not empty starts with is no star
@@ -48,23 +50,6 @@ no-star b u s = go (special b) refl
 unfoldable pub all-fit : List Run → Bool
 all-fit [] = true
 all-fit (run k t ∷ rs) = fits k t && all-fit rs
-
--- no run's text is empty
-filled : {A : Type 0} (k : Kind) → fits k [] ≡ true → A
-unfolding fits singles first-is
-filled plain e = true-false (sym e)
-filled strong e = true-false (sym e)
-filled em e = true-false (sym e)
-filled both e = true-false (sym e)
-filled code e = true-false (sym e)
-
-pub filled-text : (k : Kind) (t : List ℕ) → fits k t ≡ true → is-empty t ≡ false
-filled-text k [] e = filled k e
-filled-text k (a ∷ t) e = refl
-
-pub code-text : (u : List ℕ) → fits code u ≡ true → none-of special u ≡ true
-unfolding fits
-code-text u e = and-inv (edges u) (none-of special u) (and-inv (singles u) _ e .1) .1
 
 written-code : (u s : List ℕ) → fits code u ≡ true → written-run (run code u) ++ s ≡ 96 ∷ (u ++ (96 ∷ s))
 written-code u s e = rw (no-escape u (code-text u e)) (ap (λ (x : List ℕ). 96 ∷ x) (append-snoc u 96 s))
@@ -109,10 +94,6 @@ plain-or-code strong b u = inl (record { signed = refl; state = refl; said = ref
 plain-or-code em b u = inl (record { signed = refl; state = refl; said = refl; spanned = refl })
 plain-or-code both b u = inl (record { signed = refl; state = refl; said = refl; spanned = refl })
 plain-or-code code b u = inr refl
-
-not-empty : (l : List ℕ) → 0 < length l → is-empty l ≡ false
-not-empty [] h = absurd (omega arith)
-not-empty (a ∷ l) h = refl
 
 flushed : (w : Walk) (b : ℕ) (u : List ℕ) → w .text ≡ reverse (b ∷ u) → flush w ≡ S.span false w (b ∷ u) ∷ []
 unfolding flush
@@ -193,10 +174,10 @@ module _ (inner : List ℕ → List Span) where
 
   -- ---- code
   find-tick : (u s : List ℕ) → none-of special u ≡ true → find "`" (u ++ (96 ∷ s)) ≡ some (length u)
-  unfolding index none-of
+  unfolding index
   find-tick [] s e = refl
   find-tick (b ∷ u) s e =
-      let f = and-inv (not (special b)) (none-of special u) e in
+      let f = and-true (not (special b)) (none-of special u) e in
       rw (ordinary b (not-true (special b) (f .0)) .no-tick, find-tick u s (f .1))
 
   skip : (w : Walk) (u : List ℕ) (b : ℕ) (s : List ℕ) → walk inner w (suc (length u)) (u ++ (b ∷ s)) ≡ walk inner w 0 s
@@ -264,10 +245,10 @@ module _ (inner : List ℕ → List Span) where
       → walk inner (in-run k acc) 0 (closer k ++ written-runs rs) ≡ flush (in-run k acc) ++ map span rs
   unfolding apart all-fit written-runs
   runs-read k t acc [] a f = last k acc
-  runs-read k t acc (run l [] ∷ rs) a f = filled l (and-inv (fits l []) (all-fit rs) f .0)
+  runs-read k t acc (run l [] ∷ rs) a f = filled l (and-true (fits l []) (all-fit rs) f .0)
   runs-read k t acc (run l (b ∷ u) ∷ rs) a f =
-      let h = and-inv (not (touch k l)) (apart (run l (b ∷ u) ∷ rs)) a in
-      let g = and-inv (fits l (b ∷ u)) (all-fit rs) f in
+      let h = and-true (not (touch k l)) (apart (run l (b ∷ u) ∷ rs)) a in
+      let g = and-true (fits l (b ∷ u)) (all-fit rs) f in
       go (not-true (touch k l) (h .0)) (g .0) (λ (acc : List ℕ). runs-read l (b ∷ u) acc rs (h .1) (g .1)) (plain-or-code l b u)
     where
       go : touch k l ≡ false → fits l (b ∷ u) ≡ true

@@ -9,12 +9,12 @@ use lib.Dec.{eqb}
 use lib.Seq.{append-snoc}
 use Rattle.text.specs.Words.{str, is}
 use Rattle.text.specs.Chars.{is-space}
+use Rattle.text.proofs.Tests.{and-true}
 use Rattle.reference.specs.Unescape.{unescape, unescaped}
 use Rattle.html.specs.State.{State, push-str, line-start, spaced, marks, ends-with-digit, next, put-all, text}
 use Rattle.html.specs.Page.{words, loop}
 use Rattle.sheet.specs.Grammar.{none-of, last-is, no-blank}
 use Rattle.sheet.specs.Written.{escaped}
-use Rattle.sheet.specs.Sound.{and-inv}
 use Rattle.sheet.proofs.Turns.{Low, low-tail, low-front, loop-text}
 use Rattle.sheet.proofs.Tags.{st, loop-strong, loop-strong/, loop-em, loop-em/, loop-code, loop-code/}
 use Rattle.sheet.proofs.TextOut.{begins, inline, singly, hold, low-hold, held, hold-spaced, put-text, no-blank-end, put-nl}
@@ -31,9 +31,8 @@ pub data Tail : List ℕ → Type 0 where
   nl-tag : (s : List ℕ) → Tail (10 ∷ 60 ∷ s)
 
 no-tag-nl : (u : List ℕ) → none-of (is "<") u ≡ true → none-of (is "<") (u ++ (10 ∷ [])) ≡ true
-unfolding none-of
 no-tag-nl [] e = refl
-no-tag-nl (a ∷ u) e = let f = and-inv (not (eqb a 60)) (none-of (is "<") u) e in rw (f .0) (no-tag-nl u (f .1))
+no-tag-nl (a ∷ u) e = let f = and-true (not (eqb a 60)) (none-of (is "<") u) e in rw (f .0) (no-tag-nl u (f .1))
 
 -- byte 10 changes only what is pending
 nl-put : (l o : List ℕ) (b : Bool) → put-all true (10 ∷ []) (st l o b) ≡ words (10 ∷ []) (st l o b)
@@ -45,7 +44,6 @@ unfolding words text unescape unescaped put-all next is-space
 nl-words l o b = refl
 
 pub nl-raw : none-of (is "<") (10 ∷ []) ≡ true
-unfolding none-of
 nl-raw = refl
 
 -- text before a tag, that takes the state c to d

@@ -2,39 +2,34 @@
 -- Assumes nothing.
 use Prim.Native.Nat.{ℕ, zero, suc, _+_, _*_, _≤_, min}
 use native.Mathlib.Omega.{arith}
-use mathlib.Core.Path.{_≡_, refl}
+use mathlib.Core.Path.{_≡_, ap}
 use mathlib.Core.Bool.{true}
 use mathlib.Core.List.{List, [], _∷_, _++_, map}
 use lib.ListN.{length, length-append}
 use Rattle.text.specs.Words.{str}
-use Rattle.text.specs.Utf8.{utf8, encode, size}
+use Rattle.text.specs.Utf8.{utf8, size}
 use Rattle.text.specs.Decimal.{decimal}
+use Rattle.text.proofs.Laws.{size-append, size-encode}
+use Rattle.text.proofs.Tests.{and-true}
 use Rattle.records.specs.Blocks as B
-use Rattle.records.specs.Format.{encode-text, encode-span, encode-spans, encode-kind, encode-count, encode-block, encode-blocks}
+use Rattle.records.specs.Format.{encode-span, encode-spans, encode-kind, encode-count, encode-block, encode-blocks}
+use Rattle.records.proofs.FormatLaws.{blocks-append}
+use Rattle.spans.proofs.Bounds.{text-long}
+use Rattle.markdown.proofs.StateLaws.{count-small}
 use Rattle.sheet.specs.Tree.{Kind, Run, run, Block}
 use Rattle.sheet.specs.Grammar.{fits, IsPage}
 use Rattle.sheet.specs.Written.{span, written-run, written-runs, Row, head, text, item, rows, lead, written-row, joined, written-block, written, marker, block-of, blocks-of}
-use Rattle.sheet.specs.Sound.{and-inv}
-use Rattle.sheet.proofs.ReadBack.{all-fit, filled-text}
+use Rattle.sheet.proofs.Conditions.{filled-text}
+use Rattle.sheet.proofs.ReadBack.{all-fit}
 use Rattle.sheet.proofs.Fronts.{front-empty}
 use Rattle.sheet.proofs.EachLine.{Entries, Lines, a-heading, a-para, a-list, Each}
 use Rattle.sheet.proofs.EachLine as E
 use Rattle.sheet.proofs.WrittenLines.{GoodRuns}
-use Rattle.sheet.proofs.WrittenSize.{size-append, size-run, size-filled, size-item, size-head, size-joined, size-written}
+use Rattle.sheet.proofs.WrittenSize.{size-run, size-filled, size-item, size-head, size-joined, size-written}
 use Rattle.sheet.proofs.SheetReads.{good-lines}
 use Rattle.sheet.proofs.SheetWf.{span-text}
 
-pub length-encode : (s : List ℕ) → length (encode s) ≡ size s
-unfolding size
-length-encode [] = refl
-length-encode (c ∷ s) = omega (arith, length-append (utf8 c) (encode s), length-encode s)
-
 -- ---- spans
-text-long : (t : List ℕ) → length (encode-text t) ≤ 4 + size t
-unfolding size
-text-long [] = omega arith
-text-long (c ∷ t) = omega (arith, length-append (utf8 c) (encode t), length-encode t)
-
 span-long : (k : Kind) (t : List ℕ) → length (encode-span (span (run k t))) ≤ 5 + size t
 unfolding encode-span
 span-long k t = rw (span-text k t) (omega (arith, text-long t))
@@ -43,7 +38,7 @@ spans-long : (l : List Run) → all-fit l ≡ true → length (encode-spans (map
 unfolding encode-spans all-fit written-runs
 spans-long [] e = omega arith
 spans-long (run k t ∷ rs) e =
-    let f = and-inv (fits k t) (all-fit rs) e in
+    let f = and-true (fits k t) (all-fit rs) e in
     omega (
       arith,
       length-append (encode-span (span (run k t))) (encode-spans (map span rs)),
@@ -55,10 +50,6 @@ spans-long (run k t ∷ rs) e =
     )
 
 -- ---- blocks
-count-long : (n : ℕ) → length (encode-count n) ≤ 4
-count-long zero = omega arith
-count-long (suc n) = omega arith
-
 block-long : (k : B.Kind) (l : List Run) → all-fit l ≡ true
     → length (encode-block (record { kind = k; spans = map span l })) ≤ 5 + length (encode-kind k) + 6 * size (written-runs l)
 unfolding encode-block
@@ -68,13 +59,13 @@ block-long k l e =
       arith,
       length-append (encode-kind k ++ c) (encode-spans (map span l)),
       length-append (encode-kind k) c,
-      count-long (length (map span l)),
+      count-small (length (map span l)),
       spans-long l e,
     )
 
 item-long : (d : ℕ) (m : List ℕ) → length (encode-kind (B.item d m)) ≤ 3 + size m
-item-long zero m = omega (arith, length-encode m)
-item-long (suc d) m = omega (arith, length-encode m)
+item-long zero m = omega (arith, size-encode m)
+item-long (suc d) m = omega (arith, size-encode m)
 
 marker-long : (n : ℕ) → (size (marker n) ≤ 1 + size (lead n)) × (2 ≤ size (lead n))
 unfolding size utf8
@@ -98,12 +89,6 @@ row-text : (l : List Run) → GoodRuns l → length (encode-block (block-of (tex
 row-text l g = omega (arith, block-long B.paragraph l (g .fit), some-runs l g)
 
 -- ---- rows, blocks, pages
-blocks-append : (a b : List B.Block) → length (encode-blocks (a ++ b)) ≡ length (encode-blocks a) + length (encode-blocks b)
-unfolding encode-blocks
-blocks-append [] b = omega arith
-blocks-append (x ∷ a) b =
-    omega (arith, blocks-append a b, length-append (encode-block x) (encode-blocks (a ++ b)), length-append (encode-block x) (encode-blocks a))
-
 one-block : (b : B.Block) → length (encode-blocks (b ∷ [])) ≡ length (encode-block b)
 unfolding encode-blocks
 one-block b = omega (arith, length-append (encode-block b) [])
@@ -129,9 +114,9 @@ rows-long (a-list it its e) = entries-long e
 all-long : (bs : List Block) → Each GoodRuns bs → length (encode-blocks (blocks-of bs)) ≤ 11 * size (written bs)
 unfolding blocks-of written joined encode-blocks
 all-long [] E.none = omega arith
-all-long (b ∷ []) (E.one h e) = omega (arith, blocks-append (map block-of (rows b)) [], rows-long h)
+all-long (b ∷ []) (E.one h e) = omega (arith, ap length (blocks-append (map block-of (rows b)) []), length-append (encode-blocks (map block-of (rows b))) (encode-blocks []), rows-long h)
 all-long (b ∷ c ∷ bs) (E.one h e) =
-    omega (arith, blocks-append (map block-of (rows b)) (blocks-of (c ∷ bs)), rows-long h, all-long (c ∷ bs) e, size-written b c bs)
+    omega (arith, ap length (blocks-append (map block-of (rows b)) (blocks-of (c ∷ bs))), length-append (encode-blocks (map block-of (rows b))) (encode-blocks (blocks-of (c ∷ bs))), rows-long h, all-long (c ∷ bs) e, size-written b c bs)
 
 pub sheet-records : {s : List ℕ} {t : List Block} → IsPage s t → length (encode-blocks (blocks-of t)) ≤ 11 * size (written t)
 sheet-records {t = t} p = all-long t (good-lines p)

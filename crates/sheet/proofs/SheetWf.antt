@@ -1,6 +1,6 @@
 -- Every block of a sheet's tree has a record.
 -- Assumes nothing.
-use Prim.Native.Nat.{ℕ, zero, suc, _+_, _≤_, _<_, min}
+use Prim.Native.Nat.{ℕ, zero, suc, _≤_, _<_, min}
 use native.Mathlib.Omega.{arith}
 use mathlib.Core.Path.{_≡_, refl, sym}
 use mathlib.Core.Bool.{Bool, true, false, _||_}
@@ -11,22 +11,24 @@ use Rattle.text.specs.Words.{str, all, is-empty}
 use Rattle.text.specs.Chars.{is-scalar, is-digit}
 use Rattle.text.specs.Utf8.{Scalars, size}
 use Rattle.text.specs.Decimal.{decimal}
+use Rattle.text.proofs.Tests.{and-true}
 use Rattle.text.proofs.Laws.{scalars-true}
+use Rattle.text.proofs.Laws.{size-append}
 use Rattle.records.specs.Blocks as B
 use Rattle.records.specs.Blocks.{Span}
 use Rattle.records.specs.Format.{non-empty, is-bullet, digits-stop, is-ordinal, is-marker, WfSpan, WfSpans, WfKind, WfBlock, WfBlocks}
 use Rattle.sheet.specs.Tree.{Kind, plain, strong, em, both, code, Run, run, Block}
 use Rattle.sheet.specs.Grammar.{fits, Line, IsPage}
 use Rattle.sheet.specs.Written.{span, written-run, written-runs, Row, item, rows, written-row, joined, written-block, written, marker, block-of, blocks-of}
-use Rattle.sheet.specs.Sound.{and-inv}
 use Rattle.sheet.proofs.Facts.{false-true}
 use Rattle.sheet.proofs.AllChars.{decimal-all, decimal-some}
-use Rattle.sheet.proofs.ReadBack.{all-fit, filled-text}
+use Rattle.sheet.proofs.Conditions.{filled-text}
+use Rattle.sheet.proofs.ReadBack.{all-fit}
 use Rattle.sheet.proofs.EachLine.{Entries, Lines, a-heading, a-para, a-list, Each, page-lines}
 use Rattle.sheet.proofs.EachLine as E
 use Rattle.sheet.proofs.WrittenLines.{good-runs}
 use Rattle.sheet.proofs.ReadAll.{AllShort, Shorts}
-use Rattle.sheet.proofs.WrittenSize.{size-append, size-run, runs-few, size-item, size-head, size-joined, size-written}
+use Rattle.sheet.proofs.WrittenSize.{size-run, runs-few, size-item, size-head, size-joined, size-written}
 use Rattle.sheet.proofs.Places.{places-short}
 use Rattle.sheet.proofs.SheetReads.{good-lines}
 use Rattle.sheet.proofs.SheetScalars.{Texts, rest, line-texts}
@@ -63,16 +65,16 @@ wf-spans : (l : List Run) → all-fit l ≡ true → Texts l → size (written-r
 unfolding written-runs all-fit
 wf-spans [] e h l = tt
 wf-spans (run k t ∷ rs) e h l =
-    let f = and-inv (fits k t) (all-fit rs) e in
+    let f = and-true (fits k t) (all-fit rs) e in
     let a = size-append (written-run (run k t)) (written-runs rs) in
     (wf-span k t (h .0) (filled-text k t (f .0)) (omega (arith, size-run k t)), wf-spans rs (f .1) (h .1) (omega arith))
 
 -- ---- markers
 stop-after : (ds : List ℕ) → all is-digit ds ≡ true → digits-stop (ds ++ str ".") ≡ true
 stop-after [] e = refl
-stop-after (a ∷ []) e = rw (and-inv (is-digit a) true e .0)
+stop-after (a ∷ []) e = rw (and-true (is-digit a) true e .0)
 stop-after (a ∷ b ∷ ds) e =
-    let f = and-inv (is-digit a) (all is-digit (b ∷ ds)) e in
+    let f = and-true (is-digit a) (all is-digit (b ∷ ds)) e in
     rw (f .0) (stop-after (b ∷ ds) (f .1))
 
 ordinal-marker : (m : List ℕ) → is-ordinal m ≡ true → is-marker m ≡ true

@@ -1,6 +1,6 @@
 -- Blocks: what the reader's answers are made of, and their counts.
 -- Assumes nothing.
-use Prim.Native.Nat.{ℕ, zero, suc, _+_, _-_, _≤_, _<_, min}
+use Prim.Native.Nat.{ℕ, suc, _+_, _-_, _≤_, _<_, min}
 use native.Mathlib.Omega.{arith}
 use mathlib.Core.Path.{_≡_, refl, sym, _∙_, ap, subst}
 use mathlib.Core.Bool.{Bool, true, false}
@@ -13,79 +13,26 @@ use lib.ListN.{length, getD, length-append}
 use Rattle.text.specs.Words.{str, repeat, _>>=_}
 use Rattle.text.specs.Chars.{within}
 use Rattle.text.specs.Utf8.{utf8, code-at}
-use Rattle.text.proofs.Tests.{within-true, decide, and-true}
+use Rattle.text.proofs.Tests.{within-true, decide}
 use Rattle.text.proofs.Laws.{turn-is, advance-end, utf8-ascii}
-use Rattle.sheet.specs.Reading.{_<|>_, strip, many}
-use Rattle.sheet.specs.Tree.{Run, Mark, ul, ol, Items, end, leaf, node, Item, alone, with, items, Block, heading, para, list}
-use Rattle.sheet.specs.Grammar.{closes, closes-h}
-use Rattle.sheet.specs.Reader.{Answer, nl?, line, item, then-nl, some-items, marked, list-of, read-list, digit, headed, read-heading, read-para, block}
+use Rattle.sheet.specs.Reading.{_<|>_, strip}
+use Rattle.sheet.specs.Tree.{Run, Mark, Items, end, leaf, node, alone, with, Block, heading, para, list}
+use Rattle.sheet.specs.Grammar.{closes-h, is-list, IsList}
+use Rattle.sheet.specs.Reader.{Answer, line, read-list, digit, headed, read-heading, read-para, block}
 use Rattle.sheet.specs.Written.{Row, rows-from, rows, written-runs, written-row, joined}
 use Rattle.sheet.specs.Weight.{weight, alike, added}
 use Rattle.sheet.specs.Says.{from, Says}
 use Rattle.sheet.specs.Forms.{led-rows, list-form, block-form}
-use Rattle.sheet.specs.Sound.{none-some, bind-inv, guard-inv, alt-inv}
+use Rattle.sheet.proofs.ReadingLaws.{alt-left, alt-right}
+use Rattle.sheet.proofs.Sound.{read-list-sound}
 use Rattle.sheet.specs.declared.count.Count.{Count}
 use Rattle.sheet.specs.declared.count.Read.{Read}
 use Rattle.sheet.specs.declared.count.Read.the-variants.{At, No}
-use Rattle.sheet.proofs.TestTags.{ascii}
-use Rattle.sheet.proofs.TestCount.{weight-append, weight-ascii}
-use Rattle.sheet.proofs.TestMany.{Shrinks, strip-shrinks}
+use Rattle.sheet.proofs.AllChars.{all-append, all-hashes}
+use Rattle.sheet.proofs.PageRead.{length-hashes}
+use Rattle.sheet.proofs.TestTags.{low, ascii}
+use Rattle.sheet.proofs.TestCount.{low-marks, weight-append, weight-ascii}
 use Rattle.sheet.proofs.TestSays.{Got, answers, refuses}
-use Rattle.sheet.proofs.TestItems.{line-shrinks, read-list-shrinks}
-
--- ---- what is read leaves less
-digit-shrinks : (s : List ℕ) (y : ℕ × List ℕ) → digit s ≡ some y → length (y .1) < length s
-digit-shrinks [] y e = none-some e
-digit-shrinks (b ∷ s) y e =
-    let g = guard-inv (within 49 54 b) _ e in
-    let z : (b - 48, s) ≡ y = cc (g .1) in
-    omega (arith, ap (λ (y : ℕ × List ℕ). length (y .1)) z)
-
-headed-shrinks : (n : ℕ) → Shrinks (headed n)
-unfolding headed
-headed-shrinks n s y e =
-    let o = bind-inv (strip (str ">") s) _ e in
-    let l = bind-inv (line (o .0)) _ (o .2) in
-    let c = bind-inv (strip (closes-h n) (l .0 .1)) _ (l .2) in
-    let z : (heading n (l .0 .0), c .0) ≡ y = cc (c .2) in
-    let l₁ = strip-shrinks (str ">") s (o .1) in
-    let l₂ = line-shrinks (o .0) (l .0) (l .1) in
-    let l₃ = strip-shrinks (closes-h n) (l .0 .1) (c .1) in
-    omega (arith, ap (λ (y : Block × List ℕ). length (y .1)) z)
-
-heading-shrinks : Shrinks read-heading
-unfolding read-heading
-heading-shrinks s y e =
-    let o = bind-inv (strip (str "<h") s) _ e in
-    let n = bind-inv (digit (o .0)) _ (o .2) in
-    let l₁ = strip-shrinks (str "<h") s (o .1) in
-    let l₂ = digit-shrinks (o .0) (n .0) (n .1) in
-    let l₃ = headed-shrinks (n .0 .0) (n .0 .1) y (n .2) in
-    omega arith
-
-para-shrinks : Shrinks read-para
-unfolding read-para
-para-shrinks s y e =
-    let o = bind-inv (strip (str "<p>") s) _ e in
-    let l = bind-inv (line (o .0)) _ (o .2) in
-    let c = bind-inv (strip (str "</p>") (l .0 .1)) _ (l .2) in
-    let z : (para (l .0 .0), c .0) ≡ y = cc (c .2) in
-    let l₁ = strip-shrinks (str "<p>") s (o .1) in
-    let l₂ = line-shrinks (o .0) (l .0) (l .1) in
-    let l₃ = strip-shrinks (str "</p>") (l .0 .1) (c .1) in
-    omega (arith, ap (λ (y : Block × List ℕ). length (y .1)) z)
-
-pub block-shrinks : Shrinks block
-unfolding block
-block-shrinks s y e =
-    ⊎-elim (heading-shrinks s y) (λ e. ⊎-elim (para-shrinks s y) by-list (alt-inv (read-para s) _ e)) (alt-inv (read-heading s) _ e)
-  where
-    by-list : (read-list 8 s >>= λ x. some (list (x .0 .0) (x .0 .1), x .1)) ≡ some y → length (y .1) < length s
-    by-list e =
-        let b = bind-inv (read-list 8 s) _ e in
-        let z : (list (b .0 .0 .0) (b .0 .0 .1), b .0 .1) ≡ y = cc (b .2) in
-        let l = read-list-shrinks 8 s (b .0) (b .1) in
-        omega (arith, ap (λ (y : Block × List ℕ). length (y .1)) z)
 
 -- ---- a heading
 module _ (n : ℕ) (s : List ℕ) where
@@ -112,25 +59,13 @@ module _ (n : ℕ) (s : List ℕ) where
 pub close-ascii : (n : ℕ) → n ≤ 6 → ascii (60 ∷ 47 ∷ 104 ∷ (48 + n) ∷ 62 ∷ []) ≡ true
 close-ascii n h = rw (lt-ltb (48 + n) 0x80 (omega arith))
 
-hashes-ascii : (n : ℕ) → ascii (repeat n "#") ≡ true
-hashes-ascii zero = refl
-hashes-ascii (suc n) = hashes-ascii n
-
-hashes-length : (n : ℕ) → length (repeat n "#") ≡ n
-hashes-length zero = refl
-hashes-length (suc n) = let h = hashes-length n in omega arith
-
-ascii-snoc : (l : List ℕ) → ascii l ≡ true → ascii (l ++ str " ") ≡ true
-ascii-snoc [] h = refl
-ascii-snoc (a ∷ l) h = let g = and-true (ltb a 0x80) (ascii l) h in rw (g .0) (ascii-snoc l (g .1))
-
 pub heading-weight : (n : ℕ) (l : List Run) {k : ℕ} {a b c : Count} → k ≡ min n 3 → a ≡ alike (k + 3) → b ≡ weight (written-runs l) → c ≡ added a b → c ≡ weight (block-form (heading n l))
 unfolding rows joined
 heading-weight n l {k} {a} {b} {c} e f g h =
     let p = str "\n\n" ++ (repeat (min n 3) "#" ++ str " ") in
     let q : weight p ≡ alike (min n 3 + 3) =
-    weight-ascii p (ascii-snoc (repeat (min n 3) "#") (hashes-ascii (min n 3)))
-    ∙ ap (λ (m : ℕ). alike (suc (suc m))) (length-append (repeat (min n 3) "#") (str " ") ∙ ap (λ (m : ℕ). m + 1) (hashes-length (min n 3)))
+    weight-ascii p (all-append low (repeat (min n 3) "#") (str " ") (all-hashes low low-marks (min n 3)) refl)
+    ∙ ap (λ (m : ℕ). alike (suc (suc m))) (length-append (repeat (min n 3) "#") (str " ") ∙ ap (λ (m : ℕ). m + 1) (length-hashes (min n 3)))
     ∙ ap alike (omega arith) in
     h ∙ cc (f ∙ ap (λ (k : ℕ). alike (k + 3)) e ∙ sym q, g) ∙ sym (weight-append p (written-runs l))
     ∙ ap weight (ap (λ (m : List ℕ). str "\n\n" ++ m) (append-assoc (repeat (min n 3) "#") (str " ") (written-runs l)))
@@ -220,19 +155,11 @@ some-row m (leaf l its) h = (_, _, refl)
 some-row m (node l k sub its) h = (_, _, refl)
 
 list-filled : (s : List ℕ) (y : (Mark × Items) × List ℕ) → read-list 8 s ≡ some y → its-filled (y .0 .1) ≡ true
-unfolding read-list list-of
-list-filled s y e =
-    let m = bind-inv (marked ul s <|> marked ol s) _ e in
-    let x = many (then-nl (item (read-list 7))) (length s) (nl? (m .0 .1)) in
-    let i = bind-inv (some-items (x .0)) _ (m .2) in
-    let c = bind-inv (strip (closes (m .0 .0)) (x .1)) _ (i .2) in
-    let z : ((m .0 .0, i .0), c .0) ≡ y = cc (c .2) in
-    ap (λ (y : (Mark × Items) × List ℕ). its-filled (y .0 .1)) (sym z) ∙ go (x .0) (i .0) (i .1)
+list-filled s y e = go (read-list-sound 8 s y e)
   where
-    go : (xs : List Item) (its : Items) → some-items xs ≡ some its → its-filled its ≡ true
-    go [] its e = none-some e
-    go (alone l ∷ xs) its e = let z : items (alone l ∷ xs) ≡ its = cc in ap its-filled (sym z)
-    go (with l k sub ∷ xs) its e = let z : items (with l k sub ∷ xs) ≡ its = cc in ap its-filled (sym z)
+    go : {s r : List ℕ} {m : Mark} {its : Items} → IsList 8 s m its r → its-filled its ≡ true
+    go (is-list {it = alone l} m n q) = refl
+    go (is-list {it = with l k sub} m n q) = refl
 
 list-weight : (x : Mark × Items) → its-filled (x .1) ≡ true → {a b c : Count} → a ≡ alike 1 → b ≡ weight (list-form 0 x) → c ≡ added a b → c ≡ weight (block-form (list (x .0) (x .1)))
 unfolding list-form rows
@@ -244,12 +171,6 @@ list-weight x h {a} {b} {c} e f g =
 
 -- ---- a block
 module _ (page : List ℕ) (at : ℕ) where
-  alt-some : {A : Type 0} (o p : Option A) {x : A} → o ≡ some x → (o <|> p) ≡ some x
-  alt-some o p e = rw e
-
-  alt-none : {A : Type 0} (o p : Option A) → o ≡ none → (o <|> p) ≡ p
-  alt-none o p e = rw e
-
   abbrev s : List ℕ
   s = from page at
 
@@ -258,18 +179,18 @@ module _ (page : List ℕ) (at : ℕ) where
 
   pub block-1 : {n : ℕ} {w : Count} → Got block-form page at (read-heading s) n w → Says block-form page at (block s) (At n w)
   unfolding block
-  block-1 g = answers block-form page at (block s) (alt-some (read-heading s) (read-para s <|> listed) (g .is)) (g .count) (g .later) (g .within)
+  block-1 g = answers block-form page at (block s) (alt-left (read-heading s) (read-para s <|> listed) (g .is)) (g .count) (g .later) (g .within)
 
   module _ (e : read-heading s ≡ none) where
     pub block-2 : {n : ℕ} {w : Count} → Got block-form page at (read-para s) n w → Says block-form page at (block s) (At n w)
     unfolding block
     block-2 g =
-        answers block-form page at (block s) (alt-none (read-heading s) (read-para s <|> listed) e ∙ alt-some (read-para s) listed (g .is)) (g .count) (g .later) (g .within)
+        answers block-form page at (block s) (alt-right (read-heading s) (read-para s <|> listed) e ∙ alt-left (read-para s) listed (g .is)) (g .count) (g .later) (g .within)
 
     module _ (f : read-para s ≡ none) where
       block-list : block s ≡ listed
       unfolding block
-      block-list = alt-none (read-heading s) (read-para s <|> listed) e ∙ alt-none (read-para s) listed f
+      block-list = alt-right (read-heading s) (read-para s <|> listed) e ∙ alt-right (read-para s) listed f
 
       pub block-3 : read-list 8 s ≡ none → Says block-form page at (block s) No
       block-3 h = refuses block-form page at (block s) (block-list ∙ rw h)

@@ -1,6 +1,6 @@
 -- What the sheet test says yes to, by the grammar of document 01.
 -- Assumes nothing.
-use Prim.Native.Nat.{ℕ, _≤_, _<_}
+use Prim.Native.Nat.{ℕ}
 use native.Mathlib.Omega.{arith}
 use mathlib.Core.Path.{_≡_, refl, sym, _∙_, ap}
 use mathlib.Core.Bool.{true}
@@ -19,9 +19,10 @@ use Rattle.sheet.specs.Grammar.{IsPage}
 use Rattle.sheet.specs.Reader.{read-page}
 use Rattle.sheet.specs.Written.{written}
 use Rattle.sheet.specs.Sheet.{IsSheet}
-use Rattle.sheet.specs.Sound.{bind-inv, guard-inv, page-sound}
-use Rattle.sheet.specs.Complete.{page-complete}
-use Rattle.sheet.specs.Calls.{small, sheet, no-utf8, no-sheet, yes-sheet, sheet-call}
+use Rattle.sheet.proofs.ReadingLaws.{none-some, bind-inv, guard-inv}
+use Rattle.sheet.proofs.Sound.{page-sound}
+use Rattle.sheet.proofs.Complete.{page-complete}
+use Rattle.sheet.specs.Calls.{small, sheet, Tested, no-utf8, no-sheet, yes-sheet, sheet-call, number, counts}
 
 -- a page is a sheet, and these are the bytes and characters of its written form
 abbrev pub Counted : List ℕ → ℕ → ℕ → Type 0
@@ -73,21 +74,28 @@ module _ (page : List ℕ) (b c : ℕ) where
       rw (d, sheet-complete (h .grammar) k, x, y)
 
   -- the test says yes with these counts exactly to these pages
-  pub sheet-iff : (sheet-call page ≡ yes-sheet b c) ↔ Counted page b c
-  sheet-iff = (forth, back)
+  pub sheet-iff : (counts (sheet-call page) ≡ some (b, c)) ↔ Counted page b c
+  sheet-iff = (λ e. forth (yes (sheet-call page) e), λ h. ap counts (back h))
+    where
+      yes : (t : Tested) → counts t ≡ some (b, c) → t ≡ yes-sheet b c
+      yes no-utf8 e = none-some e
+      yes no-sheet e = none-some e
+      yes (yes-sheet x y) e =
+          let z : _≡_ {A = ℕ × ℕ} (x, y) (b, c) = cc in
+          ap (λ (p : ℕ × ℕ). yes-sheet (p .0) (p .1)) z
 
--- it refuses exactly what encodes no scalar values
-pub refused-iff : (page : List ℕ) → (sheet-call page ≡ no-utf8) ↔ ((s : List ℕ) → Scalars s → encode s ≡ page → ⊥)
+-- refusal 1 is for exactly what encodes no scalar values
+pub refused-iff : (page : List ℕ) → (number (sheet-call page) ≡ 1) ↔ ((s : List ℕ) → Scalars s → encode s ≡ page → ⊥)
 unfolding sheet-call
-refused-iff page = (λ e s h f. none-left s (decode-iff page s .1 (h, f)) e, λ h. go h (decode page) refl)
+refused-iff page = (λ e s h f. some-left s (decode-iff page s .1 (h, f)) e, λ h. go h (decode page) refl)
   where
-    none-left : (s : List ℕ) → decode page ≡ some s → case (decode page) no-utf8 (λ s. case (sheet s) no-sheet (λ t. yes-sheet (size (written t)) (length (written t)))) ≡ no-utf8 → ⊥
-    none-left s d e = held (sheet s) (sym (rw d) ∙ e)
-      where
-        held : (o : Option (List Block)) → case o no-sheet (λ t. yes-sheet (size (written t)) (length (written t))) ≡ no-utf8 → ⊥
-        held none f = let z : _≡_ {A = ℕ} 0 1 = cc in omega arith
-        held (some t) f = let z : _≡_ {A = ℕ} 0 1 = cc in omega arith
+    accepted : (o : Option (List Block)) → number (case o no-sheet (λ t. yes-sheet (size (written t)) (length (written t)))) ≡ 0
+    accepted none = refl
+    accepted (some t) = refl
 
-    go : ((s : List ℕ) → Scalars s → encode s ≡ page → ⊥) → (o : Option (List ℕ)) → decode page ≡ o → case o no-utf8 (λ s. case (sheet s) no-sheet (λ t. yes-sheet (size (written t)) (length (written t)))) ≡ no-utf8
+    some-left : (s : List ℕ) → decode page ≡ some s → number (case (decode page) no-utf8 (λ s. case (sheet s) no-sheet (λ t. yes-sheet (size (written t)) (length (written t))))) ≡ 1 → ⊥
+    some-left s d e = let z : _≡_ {A = ℕ} 0 1 = sym (accepted (sheet s)) ∙ sym (rw d) ∙ e in omega arith
+
+    go : ((s : List ℕ) → Scalars s → encode s ≡ page → ⊥) → (o : Option (List ℕ)) → decode page ≡ o → number (case o no-utf8 (λ s. case (sheet s) no-sheet (λ t. yes-sheet (size (written t)) (length (written t))))) ≡ 1
     go h none d = refl
     go h (some s) d = let u = decode-sound page s d in absurd (h s (u .0) (u .1))

@@ -5,15 +5,25 @@ use native.Mathlib.Omega.{arith}
 use mathlib.Core.Path.{_≡_, refl, ap}
 use mathlib.Core.Bool.{true}
 use mathlib.Core.List.{List, [], _∷_, _++_}
-use borrow.Author.Tests.{ltb-true}
+use borrow.Author.Tests.{ltb-true, lt-ltb}
 use lib.Dec.{ltb}
 use lib.ListN.{length, length-append}
 use Rattle.text.specs.Utf8.{size}
-use Rattle.text.proofs.Tests.{and-true}
+use Rattle.text.specs.Chars.{is-digit}
+use Rattle.text.proofs.Tests.{and-true, within-true}
 use Rattle.text.proofs.Laws.{size-append, utf8-ascii}
 use Rattle.sheet.specs.declared.count.Count.{Count}
 use Rattle.sheet.specs.Weight.{weight, alike, added}
-use Rattle.sheet.proofs.TestTags.{ascii}
+use Rattle.sheet.proofs.AllChars.{Marks}
+use Rattle.sheet.proofs.TestTags.{low, ascii}
+
+-- what is written besides texts is ASCII
+digit-low : (c : ℕ) → is-digit c ≡ true → low c ≡ true
+digit-low c e = lt-ltb c 0x80 (let f = within-true 48 57 c e in omega (arith, f .1))
+
+pub low-marks : Marks low
+low-marks =
+    record { backslash = refl; star = refl; tick = refl; hash = refl; blank = refl; dash = refl; point = refl; digit = digit-low }
 
 pub counts : {a b c d : ℕ} → a ≡ c → b ≡ d → _≡_ {A = Count} (record { bytes = a; chars = b }) (record { bytes = c; chars = d })
 counts e f = cc

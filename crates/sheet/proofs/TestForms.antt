@@ -5,19 +5,19 @@ use native.Mathlib.Omega.{arith}
 use mathlib.Core.Path.{_≡_, refl, sym, _∙_, ap}
 use mathlib.Core.Bool.{Bool, true, false, cond}
 use mathlib.Core.List.{List, [], _∷_, _++_, append-nil, append-assoc}
-use borrow.Author.Tests.{lt-ltb, le-ltb, ltb-true, ltb-false}
+use borrow.Author.Tests.{lt-ltb, le-ltb, ltb-false}
 use lib.Dec.{ltb}
 use lib.ListN.{length, length-append}
 use Rattle.text.specs.Words.{str, repeat}
 use Rattle.text.specs.Decimal.{digits, decimal}
-use Rattle.text.proofs.Tests.{and-true}
 use Rattle.sheet.specs.Tree.{Run, Mark, Items, Item, alone, with, items}
 use Rattle.sheet.specs.Written.{Row, item, place, rows-from, lead, written-runs, written-row}
 use Rattle.sheet.specs.Weight.{weight, alike, added}
 use Rattle.sheet.specs.Forms.{led-rows, item-form, list-form, row-lead}
 use Rattle.sheet.specs.declared.count.Count.{Count}
-use Rattle.sheet.proofs.TestTags.{ascii}
-use Rattle.sheet.proofs.TestCount.{counts, weight-append, weight-ascii}
+use Rattle.sheet.proofs.TestTags.{low}
+use Rattle.sheet.proofs.TestCount.{low-marks, counts, weight-append, weight-ascii}
+use Rattle.sheet.proofs.AllChars.{all-append, all-blanks, all-lead}
 
 -- ---- decimal digits
 digits-enough : (k j n : ℕ) → n < k → n < j → digits k n ≡ digits j n
@@ -40,35 +40,14 @@ unfolding digits
 decimal-large n h =
     rw (le-ltb n 10 h, digits-enough n (suc (n / 10)) (n / 10) (omega arith) (omega arith)) (length-append (digits (suc (n / 10)) (n / 10)) ((48 + n % 10) ∷ []))
 
-ascii-append : (l m : List ℕ) → ascii l ≡ true → ascii m ≡ true → ascii (l ++ m) ≡ true
-ascii-append [] m a b = b
-ascii-append (x ∷ l) m a b = let g = and-true (ltb x 0x80) (ascii l) a in rw (g .0) (ascii-append l m (g .1) b)
-
-digits-ascii : (k n : ℕ) → ascii (digits k n) ≡ true
-unfolding digits
-digits-ascii zero n = refl
-digits-ascii (suc k) n = go (digits-ascii k (n / 10)) (ltb n 10) refl
-  where
-    go : ascii (digits k (n / 10)) ≡ true → (t : Bool) → ltb n 10 ≡ t → ascii (cond t ((48 + n) ∷ []) (digits k (n / 10) ++ ((48 + n % 10) ∷ []))) ≡ true
-    go ih true e = let l = ltb-true n 10 e in rw (lt-ltb (48 + n) 0x80 (omega arith))
-    go ih false e = ascii-append (digits k (n / 10)) ((48 + n % 10) ∷ []) ih (rw (lt-ltb (48 + n % 10) 0x80 (omega arith)))
-
 -- ---- what stands before an item's line
-indent-ascii : (d : ℕ) → ascii (repeat d "  ") ≡ true
-indent-ascii zero = refl
-indent-ascii (suc d) = indent-ascii d
-
 indent-length : (d : ℕ) → length (repeat d "  ") ≡ d * 2
 indent-length zero = refl
 indent-length (suc d) = let h = indent-length d in omega arith
 
-lead-ascii : (n : ℕ) → ascii (lead n) ≡ true
-lead-ascii zero = refl
-lead-ascii (suc n) = ascii-append (decimal (suc n)) (str ". ") (digits-ascii (suc (suc n)) (suc n)) refl
-
 row-lead-weight : (d n : ℕ) → weight (row-lead d n) ≡ alike (1 + (d * 2 + length (lead n)))
 row-lead-weight d n =
-    weight-ascii (row-lead d n) (ascii-append (repeat d "  ") (lead n) (indent-ascii d) (lead-ascii n))
+    weight-ascii (row-lead d n) (all-append low (repeat d "  ") (lead n) (all-blanks low low-marks d) (all-lead low low-marks n))
     ∙ ap (λ (k : ℕ). alike (suc k)) (length-append (repeat d "  ") (lead n) ∙ ap (λ (k : ℕ). k + length (lead n)) (indent-length d))
     ∙ ap alike (omega arith)
 

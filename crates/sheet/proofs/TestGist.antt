@@ -12,12 +12,13 @@ use Rattle.text.specs.Utf8.{size, utf8}
 use Rattle.text.proofs.Tests.{and-assoc, and-true-right}
 use Rattle.text.proofs.Laws.{utf8-size, utf8-ascii}
 use Rattle.html.specs.State.{special}
-use Rattle.sheet.specs.Grammar.{singles, first-is, none-of, any}
+use Rattle.records.specs.Format.{non-empty}
+use Rattle.sheet.specs.Grammar.{singles, none-of}
 use Rattle.sheet.specs.Written.{escaped}
 use Rattle.sheet.specs.declared.count.Count.{Count}
 use Rattle.sheet.specs.declared.line.Gist.{Gist}
 use Rattle.sheet.specs.Weight.{weight}
-use Rattle.sheet.specs.Facts.{first-of, last-of, gist, pushed, Scanned}
+use Rattle.sheet.specs.Keeps.{first-of, last-of, gist, pushed, Scanned}
 use Rattle.sheet.specs.Reader.{char}
 use Rattle.sheet.specs.Says.{from}
 use mathlib.Core.Option.{none}
@@ -47,7 +48,7 @@ weight-other c h {n} e = sym (rw h (let l = utf8-size c in counts (omega arith) 
 
 -- ---- no text
 pub gist-nil : record { count = record { bytes = 0; chars = 0 }; any = false; first = 32; last = 32; single = true; calm = true } ≡ gist []
-unfolding gist first-is none-of singles escaped weight size
+unfolding gist singles escaped weight size
 gist-nil = refl
 
 -- ---- one character more
@@ -56,29 +57,26 @@ unfolding escaped
 escaped-append [] u = refl
 escaped-append (c ∷ t) u = rw (escaped-append t u) (sym (mathlib.Core.List.append-assoc (if special c then str "\\" ++ (c ∷ []) else c ∷ []) (escaped t) (escaped u)))
 
-first-snoc : (t : List ℕ) (c : ℕ) → first-of (t ++ (c ∷ [])) ≡ cond (first-is any t) (first-of t) c
-unfolding first-is
+first-snoc : (t : List ℕ) (c : ℕ) → first-of (t ++ (c ∷ [])) ≡ cond (non-empty t) (first-of t) c
 first-snoc [] c = refl
 first-snoc (a ∷ t) c = refl
 
-any-snoc : (t : List ℕ) (c : ℕ) → first-is any (t ++ (c ∷ [])) ≡ true
-unfolding first-is
-any-snoc [] c = refl
-any-snoc (a ∷ t) c = refl
+pub some-snoc : {A : Type 0} (xs : List A) (x : A) → non-empty (xs ++ (x ∷ [])) ≡ true
+some-snoc [] x = refl
+some-snoc (y ∷ xs) x = refl
 
 last-snoc : (t : List ℕ) (c : ℕ) → last-of (t ++ (c ∷ [])) ≡ c
 last-snoc [] c = refl
 last-snoc (a ∷ []) c = refl
 last-snoc (a ∷ b ∷ t) c = last-snoc (b ∷ t) c
 
-singles-snoc : (t : List ℕ) (c : ℕ) → singles (t ++ (c ∷ [])) ≡ singles t && not (first-is any t && (eqb (last-of t) 32 && eqb c 32))
-unfolding singles first-is
+singles-snoc : (t : List ℕ) (c : ℕ) → singles (t ++ (c ∷ [])) ≡ singles t && not (non-empty t && (eqb (last-of t) 32 && eqb c 32))
+unfolding singles
 singles-snoc [] c = refl
 singles-snoc (a ∷ []) c = and-true-right _
 singles-snoc (a ∷ b ∷ t) c = ap (λ (x : Bool). not (eqb a 32 && eqb b 32) && x) (singles-snoc (b ∷ t) c) ∙ sym (and-assoc (not (eqb a 32 && eqb b 32)) (singles (b ∷ t)) _)
 
 none-snoc : (f : ℕ → Bool) (t : List ℕ) (c : ℕ) → none-of f (t ++ (c ∷ [])) ≡ none-of f t && not (f c)
-unfolding none-of
 none-snoc f [] c = and-true-right (not (f c))
 none-snoc f (a ∷ t) c = ap (λ (x : Bool). not (f a) && x) (none-snoc f t c) ∙ sym (and-assoc (not (f a)) (none-of f t) (not (f c)))
 
@@ -89,7 +87,7 @@ gists p q r t u v = cc
 pub gist-snoc : (t : List ℕ) (c : ℕ) → gist (t ++ (c ∷ [])) ≡ pushed (gist t) c
 unfolding gist
 gist-snoc t c =
-    gists (ap weight (escaped-append t (c ∷ [])) ∙ weight-append (escaped t) (escaped (c ∷ []))) (any-snoc t c) (first-snoc t c) (last-snoc t c) (singles-snoc t c) (none-snoc special t c)
+    gists (ap weight (escaped-append t (c ∷ [])) ∙ weight-append (escaped t) (escaped (c ∷ []))) (some-snoc t c) (first-snoc t c) (last-snoc t c) (singles-snoc t c) (none-snoc special t c)
 
 -- ---- the loop over the characters of a text: what was read up to `pos`, and what is kept of it
 pub record Scan-to (page : List ℕ) (at pos : ℕ) (g : Gist) : Type 0 where

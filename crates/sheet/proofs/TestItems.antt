@@ -1,100 +1,33 @@
 -- Items and lists: what the reader's answers are made of, and the loop over a list's items.
 -- Assumes nothing.
-use Prim.Native.Nat.{ℕ, zero, suc, _+_, _-_, _≤_, _<_}
+use Prim.Native.Nat.{ℕ, zero, suc, _+_, _-_, _≤_}
 use native.Mathlib.Omega.{arith}
 use mathlib.Core.Path.{_≡_, refl, sym, _∙_, ap, subst}
 use mathlib.Core.Bool.{Bool, true, false}
-use mathlib.Core.Option.{Option, none, some}
-use mathlib.Core.Logic.{⊎-elim}
+use mathlib.Core.Option.{none, some}
 use mathlib.Core.List.{List, [], _∷_, _++_}
 use lib.ListN.{length, length-append}
-use Rattle.text.specs.Words.{str, _>>=_, case}
+use Rattle.text.specs.Words.{str, _>>=_}
 use Rattle.text.specs.Utf8.{size}
 use Rattle.sheet.specs.Reading.{_<|>_, strip, many}
 use Rattle.sheet.specs.Tree.{Run, Mark, ul, ol, Items, Item, alone, with, items}
-use Rattle.sheet.specs.Grammar.{opens, closes, neat}
-use Rattle.sheet.specs.Reader.{Answer, nl?, one-run, line, then-nl, with-list, item, some-items, marked, list-of, read-list}
+use Rattle.sheet.specs.Grammar.{opens, closes}
+use Rattle.sheet.specs.Reader.{Answer, nl?, line, then-nl, item, some-items, marked, list-of, read-list}
 use Rattle.sheet.specs.Written.{place, rows-from}
 use Rattle.sheet.specs.Weight.{weight, alike, added}
 use Rattle.sheet.specs.Says.{from, Says, Tagged, Skipped}
 use Rattle.sheet.specs.Forms.{led-rows, item-form, list-form, mark-of, Begun}
-use Rattle.sheet.specs.Sound.{none-some, bind-inv, guard-inv, alt-inv}
+use Rattle.sheet.proofs.Sound.{marked-inv}
+use Rattle.sheet.proofs.Shrinks.{nl-shrinks, items-shrink}
 use Rattle.sheet.specs.declared.count.Count.{Count}
 use Rattle.sheet.specs.declared.count.Read.the-variants.{At}
 use Rattle.sheet.specs.declared.list.Opening.{Opening}
 use Rattle.sheet.specs.declared.list.Opening.the-variants as O
 use Rattle.sheet.proofs.TestTags.{Stands, is-tag}
 use Rattle.sheet.proofs.TestCount.{weight-append}
-use Rattle.sheet.proofs.TestMany.{Shrinks, every, many-every, many-shrinks, strip-shrinks, nl-shrinks, then-nl-shrinks, Read-to, to-none, to-more, to-stop}
+use Rattle.sheet.proofs.TestMany.{every, many-every, Read-to, to-none, to-more, to-stop}
 use Rattle.sheet.proofs.TestSays.{Got, answers}
-use Rattle.sheet.proofs.TestRuns.{run-shrinks}
 use Rattle.sheet.proofs.TestForms.{rows-snoc}
-
--- ---- what is read leaves less
-pub line-shrinks : (s : List ℕ) (y : List Run × List ℕ) → line s ≡ some y → length (y .1) ≤ length s
-unfolding line
-line-shrinks s y e =
-    let g = guard-inv (neat (every one-run s .0)) _ e in
-    let z : every one-run s ≡ y = cc (g .1) in
-    let l = many-shrinks one-run run-shrinks (length s) s in
-    omega (arith, ap (λ (y : List Run × List ℕ). length (y .1)) z)
-
-item-shrinks : (read : List ℕ → Answer (Mark × Items)) → Shrinks read → Shrinks (item read)
-unfolding item
-item-shrinks read h s y e =
-    let o = bind-inv (strip (str "<li>") s) _ e in
-    let l = bind-inv (line (o .0)) _ (o .2) in
-    let a = strip-shrinks (str "<li>") s (o .1) in
-    let b = line-shrinks (o .0) (l .0) (l .1) in
-    let c = go (l .0) (strip (str "</li>") (l .0 .1)) refl (l .2) in
-    omega arith
-  where
-    go : (x : List Run × List ℕ) (o : Option (List ℕ)) → strip (str "</li>") (x .1) ≡ o → case o (with-list read (x .0) (x .1)) (λ r. some (alone (x .0), r)) ≡ some y → length (y .1) ≤ length (x .1)
-    go x (some r) e f =
-        let z : (alone (x .0), r) ≡ y = cc in
-        let a = strip-shrinks (str "</li>") (x .1) e in
-        omega (arith, ap (λ (y : Item × List ℕ). length (y .1)) z)
-    go x none e f =
-        let b = bind-inv (read (nl? (x .1))) _ f in
-        let c = bind-inv (strip (str "</li>") (nl? (b .0 .1))) _ (b .2) in
-        let z : (with (x .0) (b .0 .0 .0) (b .0 .0 .1), c .0) ≡ y = cc (c .2) in
-        let l₁ = nl-shrinks (x .1) in
-        let l₂ = h (nl? (x .1)) (b .0) (b .1) in
-        let l₃ = nl-shrinks (b .0 .1) in
-        let l₄ = strip-shrinks (str "</li>") (nl? (b .0 .1)) (c .1) in
-        omega (arith, ap (λ (y : Item × List ℕ). length (y .1)) z)
-
-marked-shrinks : (s : List ℕ) (y : Mark × List ℕ) → (marked ul s <|> marked ol s) ≡ some y → length (y .1) < length s
-marked-shrinks s y e = ⊎-elim (by ul (omega arith)) (by ol (omega arith)) (alt-inv (marked ul s) _ e)
-  where
-    by : (m : Mark) → 0 < length (opens m) → marked m s ≡ some y → length (y .1) < length s
-    by m p e =
-        let b = bind-inv (strip (opens m) s) _ e in
-        let z : (m, b .0) ≡ y = cc (b .2) in
-        let l = strip-shrinks (opens m) s (b .1) in
-        omega (arith, ap (λ (y : Mark × List ℕ). length (y .1)) z)
-
-list-shrinks : (read : List ℕ → Answer Item) → Shrinks read → Shrinks (list-of read)
-unfolding list-of
-list-shrinks read h s y e =
-    let m = bind-inv (marked ul s <|> marked ol s) _ e in
-    let x = many (then-nl read) (length s) (nl? (m .0 .1)) in
-    let i = bind-inv (some-items (x .0)) _ (m .2) in
-    let c = bind-inv (strip (closes (m .0 .0)) (x .1)) _ (i .2) in
-    let z : ((m .0 .0, i .0), c .0) ≡ y = cc (c .2) in
-    let l₁ = marked-shrinks s (m .0) (m .1) in
-    let l₂ = nl-shrinks (m .0 .1) in
-    let l₃ = many-shrinks (then-nl read) (then-nl-shrinks read h) (length s) (nl? (m .0 .1)) in
-    let l₄ = strip-shrinks (closes (m .0 .0)) (x .1) (c .1) in
-    omega (arith, ap (λ (y : (Mark × Items) × List ℕ). length (y .1)) z)
-
-pub read-list-shrinks : (d : ℕ) → Shrinks (read-list d)
-unfolding read-list
-read-list-shrinks zero s y e = none-some e
-read-list-shrinks (suc d) s y e = list-shrinks (item (read-list d)) (item-shrinks (read-list d) (read-list-shrinks d)) s y e
-
-items-shrink : (d : ℕ) → Shrinks (then-nl (item (read-list d)))
-items-shrink d = then-nl-shrinks (item (read-list d)) (item-shrinks (read-list d) (read-list-shrinks d))
 
 -- ---- an item
 module _ (read : List ℕ → Answer (Mark × Items)) (s : List ℕ) where
@@ -228,7 +161,7 @@ module _ (d : ℕ) (s : List ℕ) (h : 1 ≤ d) (m : Mark) (s₁ : List ℕ) (e 
   list-is : read-list d s ≡ list-end
   unfolding list-of list-end
   list-is =
-      let l₁ = marked-shrinks s (m, s₁) e in
+      let l₁ = ap length (marked-inv s (m, s₁) e) ∙ length-append (opens m) s₁ in
       let l₂ = nl-shrinks s₁ in
       let l₃ = ap length f in
       list-1 d s h ∙ rw (e, f, many-every (then-nl (item (read-list (d - 1)))) (items-shrink (d - 1)) (length s) s₂ (omega arith), g)

@@ -12,6 +12,7 @@ use Rattle.text.specs.Chars.{is-letter}
 use Rattle.text.specs.Utf8.{size}
 use Rattle.text.proofs.Tests.{and-assoc, and-true-right}
 use Rattle.text.proofs.Laws.{size-append}
+use Rattle.records.specs.Format.{non-empty}
 use Rattle.sheet.specs.Tree as T
 use Rattle.sheet.specs.Tree.{Run, run}
 use Rattle.sheet.specs.Grammar.{touch, apart, first-letter, last-no-blank, neat}
@@ -19,18 +20,21 @@ use Rattle.sheet.specs.Reader.{one-run, line}
 use Rattle.sheet.specs.Written.{escaped, sign, written-run, written-runs}
 use Rattle.sheet.specs.Weight.{weight, alike, added}
 use Rattle.sheet.specs.Says.{from, Says}
-use Rattle.sheet.specs.Facts.{first-of, last-of, gist, coded, last-kind, filled, runs-of, joined-by, neat-of}
+use Rattle.sheet.specs.Keeps.{first-of, last-of, gist, coded, last-kind, runs-of, joined-by, neat-of}
 use Rattle.sheet.specs.declared.count.Count.{Count}
 use Rattle.sheet.specs.declared.count.Read.the-variants.{At, No}
 use Rattle.sheet.specs.declared.line.Kind.{Kind}
 use Rattle.sheet.specs.declared.line.Kind.the-variants.{Strong}
 use Rattle.sheet.specs.declared.line.Gist.{Gist}
 use Rattle.sheet.specs.declared.line.Runs.{Runs}
-use Rattle.sheet.proofs.TestTags.{ascii}
-use Rattle.sheet.proofs.TestCount.{counts, size-ascii, weight-append}
+use Rattle.sheet.proofs.AllChars.{all-sign}
+use Rattle.sheet.proofs.TestTags.{low}
+use Rattle.sheet.proofs.TestCount.{low-marks, counts, size-ascii, weight-append}
+use Rattle.sheet.proofs.TestGist.{some-snoc}
 use Rattle.sheet.proofs.TestMany.{every, Read-to, to-none, to-more, to-stop}
 use Rattle.sheet.proofs.TestSays.{answers, refuses}
-use Rattle.sheet.proofs.TestRuns.{kind-coded, last-blank, first-letter-of, run-shrinks, Run-is}
+use Rattle.sheet.proofs.TestRuns.{kind-coded, last-blank, first-letter-of, Run-is}
+use Rattle.sheet.proofs.Shrinks.{run-shrinks}
 
 -- ---- no run
 pub runs-nil : record { count = record { bytes = 0; chars = 0 }; last = Strong; any = false; apart = true; letter = false; solid = false } ≡ runs-of []
@@ -38,13 +42,6 @@ unfolding runs-of apart first-letter last-no-blank written-runs weight size
 runs-nil = refl
 
 -- ---- the written form of a run
-sign-ascii : (k : T.Kind) → ascii (sign k) ≡ true
-sign-ascii T.plain = refl
-sign-ascii T.strong = refl
-sign-ascii T.em = refl
-sign-ascii T.both = refl
-sign-ascii T.code = refl
-
 pub sign-short : (k : T.Kind) → length (sign k) ≤ 3
 sign-short T.plain = omega arith
 sign-short T.strong = omega arith
@@ -55,7 +52,7 @@ sign-short T.code = omega arith
 weight-run : (k : T.Kind) (t : List ℕ) → weight (written-run (run k t)) ≡ added (alike (2 * length (sign k))) (weight (escaped t))
 unfolding weight
 weight-run k t =
-    let s = size-ascii (sign k) (sign-ascii k) in
+    let s = size-ascii (sign k) (all-sign low low-marks k) in
     counts (omega (arith, size-append (sign k) (escaped t ++ sign k), size-append (escaped t) (sign k)))
     (omega (arith, length-append (sign k) (escaped t ++ sign k), length-append (escaped t) (sign k)))
 
@@ -70,17 +67,13 @@ last-kind-snoc [] k t = refl
 last-kind-snoc (run l u ∷ []) k t = refl
 last-kind-snoc (run l u ∷ r ∷ rs) k t = last-kind-snoc (r ∷ rs) k t
 
-pub filled-snoc : {A : Type 0} (xs : List A) (x : A) → filled (xs ++ (x ∷ [])) ≡ true
-filled-snoc [] x = refl
-filled-snoc (y ∷ xs) x = refl
-
 apart-snoc : (rs : List Run) (k : T.Kind) (t : List ℕ) → apart (rs ++ (run k t ∷ [])) ≡ apart rs && not (touch (last-kind rs) k)
 unfolding apart
 apart-snoc [] k t = refl
 apart-snoc (run l u ∷ []) k t = and-true-right (not (touch l k))
 apart-snoc (run l u ∷ run m v ∷ rs) k t = ap (λ (x : Bool). not (touch l m) && x) (apart-snoc (run m v ∷ rs) k t) ∙ sym (and-assoc (not (touch l m)) (apart (run m v ∷ rs)) _)
 
-letter-snoc : (rs : List Run) (k : T.Kind) (t : List ℕ) → first-letter (rs ++ (run k t ∷ [])) ≡ cond (filled rs) (first-letter rs) (is-letter (first-of t))
+letter-snoc : (rs : List Run) (k : T.Kind) (t : List ℕ) → first-letter (rs ++ (run k t ∷ [])) ≡ cond (non-empty rs) (first-letter rs) (is-letter (first-of t))
 unfolding first-letter
 letter-snoc [] k t = first-letter-of t
 letter-snoc (run l u ∷ rs) k t = refl
@@ -102,7 +95,7 @@ runs-snoc rs k t =
     (rows
     (ap weight (written-snoc rs (run k t)) ∙ weight-append (written-runs rs) (written-run (run k t)) ∙ ap (added (weight (written-runs rs))) (weight-run k t))
     (ap coded (last-kind-snoc rs k t))
-    (filled-snoc rs (run k t))
+    (some-snoc rs (run k t))
     (apart-snoc rs k t)
     (letter-snoc rs k t)
     (solid-snoc rs k t))
@@ -111,17 +104,17 @@ pub neat-is : (rs : List Run) → neat-of (runs-of rs) ≡ neat rs
 unfolding runs-of neat
 neat-is rs = refl
 
-neat-filled : (rs : List Run) → neat rs ≡ true → filled rs ≡ true
+neat-some : (rs : List Run) → neat rs ≡ true → non-empty rs ≡ true
 unfolding neat apart first-letter
-neat-filled [] e = e
-neat-filled (r ∷ rs) e = refl
+neat-some [] e = e
+neat-some (r ∷ rs) e = refl
 
 -- ---- the loop over the runs of a line
 pub record Line-to (page : List ℕ) (at pos : ℕ) (x : Runs) : Type 0 where
   pub read : List Run
   pub to : Read-to one-run (from page at) read (from page pos)
   pub kept : x ≡ runs-of read
-  pub moved : filled read ≡ true → (at < pos) × (pos ≤ length page)
+  pub moved : non-empty read ≡ true → (at < pos) × (pos ≤ length page)
   pub later : at ≤ pos
 
 module _ (page : List ℕ) (at : ℕ) where
@@ -151,7 +144,7 @@ module _ (page : List ℕ) (at : ℕ) where
     unfolding line runs-of
     line-yes h =
         let n = sym neat-here ∙ h in
-        let m = s .moved (neat-filled (s .read) n) in
+        let m = s .moved (neat-some (s .read) n) in
         answers written-runs page at (line (from page at)) (rw (all-read, n)) (ap (λ (x : Runs). x .count) (s .kept)) (m .0) (m .1)
 
     pub line-no : neat-of x ≡ false → Says written-runs page at (line (from page at)) No

@@ -21,14 +21,14 @@ use Rattle.sheet.specs.Written.{joined, written}
 use Rattle.sheet.specs.Weight.{weight, alike, added}
 use Rattle.sheet.specs.Says.{from, Skipped}
 use Rattle.sheet.specs.Forms.{block-form}
-use Rattle.sheet.specs.Pages.{judged}
+use Rattle.sheet.specs.Weight.{judged}
 use Rattle.sheet.specs.Calls.{small, sheet, Tested, no-utf8, no-sheet, yes-sheet, sheet-call, answer}
 use Rattle.sheet.specs.declared.count.Count.{Count}
 use Rattle.sheet.specs.declared.Verdict.the-variants.{Yes, No}
 use Rattle.sheet.proofs.TestCount.{weight-append, size-ascii}
-use Rattle.sheet.proofs.TestMany.{every, many-every, nl-shrinks, then-nl-shrinks, Read-to, to-none, to-more, to-stop}
+use Rattle.sheet.proofs.TestMany.{every, many-every, Read-to, to-none, to-more, to-stop}
 use Rattle.sheet.proofs.TestSays.{Got}
-use Rattle.sheet.proofs.TestBlocks.{block-shrinks}
+use Rattle.sheet.proofs.Shrinks.{nl-shrinks, blocks-shrink}
 
 -- ---- all blocks, each with two bytes 10 before it
 unfoldable pub led : List Block → List ℕ
@@ -71,7 +71,7 @@ module _ (page : List ℕ) (start : ℕ) where
       let xs = s .read in
       record {
         read = xs ++ (x ∷ []);
-        to = to-more (then-nl block) (then-nl-shrinks block block-shrinks) (s .to) (rw (g .is, k .rest));
+        to = to-more (then-nl block) blocks-shrink (s .to) (rw (g .is, k .rest));
         kept = f ∙ cc (s .kept, g .count) ∙ sym (weight-append (led xs) (block-form x)) ∙ ap weight (sym (led-snoc xs x));
         within = k .within (g .within);
       }
@@ -151,7 +151,7 @@ module _ (page : List ℕ) (u : is-utf8 page ≡ true) (start : ℕ) (k : Skippe
       let z : nl? (from page 0) ≡ from page start = r in
       let f : every (then-nl block) (from page start) ≡ (b .read, from page pos) = to-stop (then-nl block) (b .to) (rw e) in
       let g : many (then-nl block) (length (from page 0)) (nl? (from page 0)) ≡ (b .read, from page pos) =
-      many-every (then-nl block) (then-nl-shrinks block block-shrinks) (length (from page 0)) (nl? (from page 0)) l ∙ ap (every (then-nl block)) z ∙ f in
+      many-every (then-nl block) blocks-shrink (length (from page 0)) (nl? (from page 0)) l ∙ ap (every (then-nl block)) z ∙ f in
       rw g
 
   call-is : sheet-call page ≡ case (sheet (from page 0)) no-sheet (λ t. yes-sheet (size (written t)) (length (written t)))

@@ -3,7 +3,7 @@
 use Prim.Native.Nat.{ℕ, _+_, _≤_, _<_}
 use native.Mathlib.Omega.{arith}
 use mathlib.Core.Path.{_≡_, refl, sym, _∙_, ap, subst}
-use mathlib.Core.Bool.{Bool, true, false, not, _&&_, _||_}
+use mathlib.Core.Bool.{Bool, true, false, not}
 use mathlib.Core.Option.{none, some}
 use mathlib.Core.List.{List, [], _∷_}
 use mathlib.Core.Logic.{⊎-elim}
@@ -17,11 +17,10 @@ use Rattle.text.proofs.Laws.{advance-end}
 use Rattle.sheet.specs.Reading.{strip, many}
 use Rattle.sheet.specs.Tree as T
 use Rattle.sheet.specs.Tree.{Run, run}
-use Rattle.sheet.specs.Grammar.{touch, before, after, first-is, last-is, no-blank, singles, fits}
-use Rattle.sheet.specs.Reader.{Answer, char, text, opening, kind, one-run}
+use Rattle.sheet.specs.Grammar.{before, after, first-is, last-is, no-blank, singles, fits}
+use Rattle.sheet.specs.Reader.{Answer, text, kind, one-run}
 use Rattle.sheet.specs.Says.{from, Tagged}
-use Rattle.sheet.specs.Sound.{bind-inv, guard-inv, alt-inv}
-use Rattle.sheet.specs.Facts.{first-of, last-of, gist, Scanned, kind-of, coded, is-plain, has-em, suits, Opened, Ran}
+use Rattle.sheet.specs.Keeps.{first-of, last-of, gist, Scanned, kind-of, coded, suits, Opened, Ran}
 use Rattle.sheet.specs.declared.line.Kind.{Kind}
 use Rattle.sheet.specs.declared.line.Kind.the-variants.{Plain, Strong, Em, Both, Code}
 use Rattle.sheet.specs.declared.line.Gist.{Gist}
@@ -29,28 +28,7 @@ use Rattle.sheet.specs.declared.line.Passage.{Passage}
 use Rattle.sheet.specs.declared.line.OneRun.{OneRun}
 use Rattle.sheet.specs.declared.line.OneRun.the-variants as R
 use Rattle.sheet.proofs.TestTags.{Stands, is-tag}
-use Rattle.sheet.proofs.TestMany.{Shrinks, many-shrinks, strip-shrinks}
-use Rattle.sheet.proofs.TestText.{char-shrinks, text-more, text-stop}
-
--- ---- two runs that must not touch
-pub touching : (k l : T.Kind) → is-plain k && is-plain l || has-em k && has-em l ≡ touch k l
-touching T.plain T.plain = refl
-touching T.plain T.strong = refl
-touching T.plain T.em = refl
-touching T.plain T.both = refl
-touching T.plain T.code = refl
-touching T.strong l = refl
-touching T.em T.plain = refl
-touching T.em T.strong = refl
-touching T.em T.em = refl
-touching T.em T.both = refl
-touching T.em T.code = refl
-touching T.both T.plain = refl
-touching T.both T.strong = refl
-touching T.both T.em = refl
-touching T.both T.both = refl
-touching T.both T.code = refl
-touching T.code l = refl
+use Rattle.sheet.proofs.Shrinks.{run-shrinks}
 
 -- ---- the kind of a run
 module _ (page : List ℕ) (at : ℕ) where
@@ -118,56 +96,6 @@ suits-fits T.strong t = rw (first-blank t, last-blank t)
 suits-fits T.em t = rw (first-blank t, last-blank t)
 suits-fits T.both t = rw (first-blank t, last-blank t)
 suits-fits T.code t = rw (first-blank t, last-blank t)
-
-not-fits : (k : T.Kind) → fits k [] ≡ false
-unfolding fits singles first-is
-not-fits T.plain = refl
-not-fits T.strong = refl
-not-fits T.em = refl
-not-fits T.both = refl
-not-fits T.code = refl
-
--- ---- a run leaves less than there was
-text-shrinks : (s : List ℕ) → length (text s .1) ≤ length s
-unfolding text
-text-shrinks s = many-shrinks char char-shrinks (length s) s
-
-text-less : (k : T.Kind) (s : List ℕ) → fits k (text s .0) ≡ true → length (text s .1) < length s
-text-less k s f = go (char s) refl
-  where
-    go : (o : Answer (List ℕ)) → char s ≡ o → length (text s .1) < length s
-    go none e =
-        let z : true ≡ false = sym f ∙ ap (λ (y : List ℕ × List ℕ). fits k (y .0)) (text-stop s e) ∙ not-fits k in
-        let w : _≡_ {A = ℕ} 0 1 = cc in absurd (omega arith)
-    go (some y) e =
-        let l = char-shrinks s y e in
-        let n = text-shrinks (y .1) in
-        let z = ap (λ (y : List ℕ × List ℕ). length (y .1)) (text-more s e) in
-        omega arith
-
-kind-shrinks : (s : List ℕ) (y : T.Kind × List ℕ) → kind s ≡ some y → length (y .1) ≤ length s
-unfolding kind
-kind-shrinks s y e =
-    ⊎-elim (by T.both) (λ e. ⊎-elim (by T.strong) (λ e. ⊎-elim (by T.em) (λ e. ⊎-elim (by T.code) (by T.plain) (alt-inv (opening T.code s) _ e)) (alt-inv (opening T.em s) _ e)) (alt-inv (opening T.strong s) _ e)) (alt-inv (opening T.both s) _ e)
-  where
-    by : (k : T.Kind) → opening k s ≡ some y → length (y .1) ≤ length s
-    by k e =
-        let b = bind-inv (strip (before k) s) _ e in
-        let z : (k, b .0) ≡ y = cc (b .2) in
-        let l = strip-shrinks (before k) s (b .1) in
-        omega (arith, ap (λ (y : T.Kind × List ℕ). length (y .1)) z)
-
-pub run-shrinks : Shrinks one-run
-unfolding one-run
-run-shrinks s y e =
-    let k = bind-inv (kind s) _ e in
-    let g = guard-inv (fits (k .0 .0) (text (k .0 .1) .0)) _ (k .2) in
-    let a = bind-inv (strip (after (k .0 .0)) (text (k .0 .1) .1)) _ (g .1) in
-    let z : (run (k .0 .0) (text (k .0 .1) .0), a .0) ≡ y = cc (a .2) in
-    let l₁ = kind-shrinks s (k .0) (k .1) in
-    let l₂ = text-less (k .0 .0) (k .0 .1) (g .0) in
-    let l₃ = strip-shrinks (after (k .0 .0)) (text (k .0 .1) .1) (a .1) in
-    omega (arith, ap (λ (y : Run × List ℕ). length (y .1)) z)
 
 -- ---- one run
 module _ (page : List ℕ) (at : ℕ) where

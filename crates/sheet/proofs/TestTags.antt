@@ -11,7 +11,7 @@ use borrow.Author.Tests.{eqb-true, eq-eqb, ne-eqb, ltb-true, ltb-false}
 use lib.Dec.{eqb, ltb}
 use lib.ListN.{length, drop, length-drop}
 use lib.Seq.{drop-drop}
-use Rattle.text.specs.Words.{starts-with}
+use Rattle.text.specs.Words.{all, starts-with}
 use Rattle.text.specs.Utf8.{chars}
 use Rattle.text.proofs.Tests.{decide, and-true}
 use Rattle.text.proofs.Laws.{chars-nil, advance-end}
@@ -19,15 +19,11 @@ use Rattle.text.proofs.AsciiLaws.{chars-ascii, chars-high}
 use Rattle.sheet.specs.Reading.{strip}
 use Rattle.sheet.specs.Says.{from, Tagged}
 
-abbrev pub ascii : List ℕ → Bool
-ascii [] = true
-ascii (a ∷ t) = ltb a 0x80 && ascii t
+abbrev pub low : ℕ → Bool
+low a = ltb a 0x80
 
-eqb-swap : (a b : ℕ) → eqb a b ≡ eqb b a
-eqb-swap a b = ⊎-elim (λ e. let h = eqb-true a b e in e ∙ sym (eq-eqb b a (sym h))) (λ e. go e) (decide (eqb a b))
-  where
-    go : eqb a b ≡ false → eqb a b ≡ eqb b a
-    go e = ⊎-elim (λ f. let h = eqb-true b a f in (eq-eqb a b (sym h)) ∙ sym f) (λ f. e ∙ sym f) (decide (eqb b a))
+abbrev pub ascii : List ℕ → Bool
+ascii t = all low t
 
 -- what is left after the tag, or that it does not stand there
 abbrev After : List ℕ → List ℕ → Bool → Type 0

@@ -17,13 +17,13 @@ use Rattle.text.proofs.Tests.{decide}
 use Rattle.text.proofs.Laws.{turn-is, advance-end}
 use Rattle.sheet.specs.Reading.{strip}
 use Rattle.sheet.specs.Grammar.{shown}
-use Rattle.sheet.specs.Reader.{Answer, own, means, char, text}
+use Rattle.sheet.specs.Reader.{Answer, own, char, text}
 use Rattle.sheet.specs.Says.{from}
-use Rattle.sheet.specs.Facts.{referred, Spelt}
-use Rattle.sheet.specs.Sound.{none-some, bind-inv, guard-inv, alt-inv}
+use Rattle.sheet.specs.Keeps.{referred, Spelt}
 use Rattle.sheet.specs.declared.line.Glyph.{Glyph}
 use Rattle.sheet.specs.declared.line.Glyph.the-variants as G
-use Rattle.sheet.proofs.TestMany.{Shrinks, every-more, every-stop, strip-shrinks}
+use Rattle.sheet.proofs.Shrinks.{char-shrinks}
+use Rattle.sheet.proofs.TestMany.{every-more, every-stop}
 
 -- ---- an ASCII character that stands for itself
 shown-low : (c : ℕ) → c ≤ 31 → (ltb 32 c && not (eqb c 127) && not (eqb c 60) && not (eqb c 38)) ≡ shown c
@@ -129,26 +129,6 @@ module _ (s : List ℕ) where
           char-6 f = rw (e₁, e₂, e₃, e₄, f)
 
 -- ---- the text
-
-own-shrinks : Shrinks own
-unfolding own
-own-shrinks [] y e = none-some e
-own-shrinks (c ∷ s) y e =
-    let g = guard-inv (shown c) _ e in
-    let z : (c ∷ [], s) ≡ y = cc (g .1) in
-    omega (arith, ap (λ (y : List ℕ × List ℕ). length (y .1)) z)
-
-pub char-shrinks : Shrinks char
-unfolding char
-char-shrinks s y e =
-    ⊎-elim (own-shrinks s y) (λ e. ⊎-elim (by " " " " (omega arith)) (λ e. ⊎-elim (by "<" "&lt;" (omega arith)) (λ e. ⊎-elim (by "&" "&amp;" (omega arith)) (λ e. ⊎-elim (by ">" "&gt;" (omega arith)) (by "\"" "&quot;" (omega arith)) (alt-inv (means ">" "&gt;" s) _ e)) (alt-inv (means "&" "&amp;" s) _ e)) (alt-inv (means "<" "&lt;" s) _ e)) (alt-inv (means " " " " s) _ e)) (alt-inv (own s) _ e)
-  where
-    by : (q p : Prim.Native.String.String) → 0 < length (str p) → means q p s ≡ some y → length (y .1) < length s
-    by q p h e =
-        let b = bind-inv (strip (str p) s) _ e in
-        let z : (str q, b .0) ≡ y = cc (b .2) in
-        let l = strip-shrinks (str p) s (b .1) in
-        omega (arith, ap (λ (y : List ℕ × List ℕ). length (y .1)) z)
 
 pub text-more : (s : List ℕ) {q m : List ℕ} → char s ≡ some (q, m) → text s ≡ (q ++ text m .0, text m .1)
 unfolding text

@@ -1,18 +1,18 @@
 -- Converting a run's text writes it escaped; its last space is held back.
 -- Assumes nothing.
 use Prim.Native.Nat.{ℕ}
-use native.Mathlib.Omega.{arith}
 use mathlib.Core.Path.{_≡_, refl, sym, _∙_, ap, subst}
-use mathlib.Core.Bool.{Bool, true, false, not, _&&_, cond, and-true, and-false, or-false}
+use mathlib.Core.Bool.{Bool, true, false, not, _&&_, cond, and-false, or-false}
 use mathlib.Core.List.{List, [], _∷_, _++_, reverseAux, tail, reverseAux-append}
 use borrow.Author.Tests.{not-true, eqb-true}
 use lib.Dec.{eqb}
 use Rattle.text.specs.Words.{is-empty}
 use Rattle.text.specs.Chars.{is-space}
+use Rattle.text.proofs.Tests.{and-true, and-true-right}
 use Rattle.html.specs.State.{State, with-out, line-start, spaced, special, ends-with-digit, escape, put, next, put-all}
 use Rattle.sheet.specs.Grammar.{last-is, no-blank}
 use Rattle.sheet.specs.Written.{escaped}
-use Rattle.sheet.specs.Sound.{and-inv}
+use Rattle.sheet.proofs.Facts.{false-true, no-space}
 use Rattle.sheet.proofs.Turns.{Low, low-tail}
 use Rattle.sheet.proofs.Tags.{st}
 
@@ -43,20 +43,13 @@ singly p (x ∷ t) = cond (eqb x 32) (not p) (not (is-space x)) && singly (eqb x
 abbrev pub shielded : ℕ → List ℕ
 shielded x = cond (special x) (92 ∷ x ∷ []) (x ∷ [])
 
-not-byte : (x b : ℕ) → is-space b ≡ true → is-space x ≡ false → eqb x b ≡ false
-not-byte x b h s = go (eqb x b) refl
-  where
-    go : (t : Bool) → eqb x b ≡ t → t ≡ false
-    go false e = refl
-    go true e = sym h ∙ subst (λ (x : ℕ). is-space x ≡ false) (eqb-true x b e) s
-
 pub not-blank : (x : ℕ) → is-space x ≡ false → eqb x 32 ≡ false
 unfolding is-space
-not-blank x s = not-byte x 32 refl s
+not-blank x s = no-space x 32 refl s
 
 pub not-newline : (x : ℕ) → is-space x ≡ false → eqb x 10 ≡ false
 unfolding is-space
-not-newline x s = not-byte x 10 refl s
+not-newline x s = no-space x 10 refl s
 
 module _ (l : List ℕ) where
   -- the state that stands for the output v, whose last space is held back
@@ -99,7 +92,7 @@ module _ (l : List ℕ) where
 
   put-inline : (f : Bool) (x : ℕ) (v : List ℕ) → inline v ≡ true → (f && ends-with-digit v) ≡ false → put f x (st l v false) ≡ st l (reverseAux (shielded x) v) false
   unfolding put escape
-  put-inline f x v i d = simp (line-start-is v, i, d, or-false, and-true)
+  put-inline f x v i d = simp (line-start-is v, i, d, or-false, and-true-right)
 
   pushed : (x : ℕ) (v : List ℕ) → eqb x 32 ≡ false → begins 32 (reverseAux (shielded x) v) ≡ false
   unfolding begins
@@ -165,7 +158,7 @@ module _ (l : List ℕ) where
   pub put-text : (t : List ℕ) (f : Bool) (v : List ℕ) → Puts t f v
   unfolding put-all singly escaped
   put-text [] f v i w d = refl
-  put-text (x ∷ t) f v i w d = go (eqb x 32) refl (λ f v. put-text t f v) (and-inv (cond (eqb x 32) (not (begins 32 v)) (not (is-space x))) (singly (eqb x 32) t) w)
+  put-text (x ∷ t) f v i w d = go (eqb x 32) refl (λ f v. put-text t f v) (and-true (cond (eqb x 32) (not (begins 32 v)) (not (is-space x))) (singly (eqb x 32) t) w)
     where
       go : (b : Bool) → eqb x 32 ≡ b → ((f : Bool) (v : List ℕ) → Puts t f v) → (cond (eqb x 32) (not (begins 32 v)) (not (is-space x)) ≡ true) × (singly (eqb x 32) t ≡ true) → put-all f (x ∷ t) (hold v) ≡ hold (reverseAux (escaped (x ∷ t)) v)
       go true e ih h =
@@ -180,7 +173,7 @@ module _ (l : List ℕ) where
 -- a text that does not end in a space
 pub no-blank-end : (t v : List ℕ) → last-is no-blank t ≡ true → begins 32 (reverseAux (escaped t) v) ≡ false
 unfolding last-is escaped begins
-no-blank-end [] v e = let z : _≡_ {A = ℕ} 0 1 = cc in absurd (omega arith)
+no-blank-end [] v e = false-true e
 no-blank-end (x ∷ []) v e = go (special x)
   where
     go : (b : Bool) → begins 32 (reverseAux (cond b (92 ∷ x ∷ []) (x ∷ []) ++ []) v) ≡ false

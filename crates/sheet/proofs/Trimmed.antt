@@ -3,20 +3,20 @@
 use Prim.Native.Nat.{ℕ, zero, suc, _≤_, min}
 use native.Mathlib.Omega.{arith}
 use mathlib.Core.Path.{_≡_, refl, sym, _∙_, ap, subst}
-use mathlib.Core.Bool.{true, false, _&&_}
+use mathlib.Core.Bool.{false}
 use mathlib.Core.Logic.{_⊎_, inl, inr}
 use mathlib.Core.List.{List, [], _∷_, _++_, map, reverse, append-assoc, reverse-append, reverse-reverse}
 use Rattle.text.specs.Words.{str, repeat, drop-while, trim-end-matches}
-use Rattle.text.specs.Chars.{is-space, is-letter}
+use Rattle.text.specs.Chars.{is-space}
 use Rattle.text.specs.Decimal.{digits}
 use Rattle.text.specs.Trim.{trim}
-use Rattle.sheet.specs.Tree.{plain, strong, em, both, code, Run, run, Mark, ul, ol, Items, Item, alone, with, items, Block, list}
+use Rattle.sheet.specs.Tree.{Run, Mark, ul, ol, Items, Item, alone, with, items, Block, list}
 use Rattle.sheet.specs.Grammar as G
-use Rattle.sheet.specs.Grammar.{Many, stop, more, IsRun, is-run, Line, ThenNL, IsList, IsBlock, is-heading, is-para, first-is, apart, first-letter, last-no-blank, neat}
-use Rattle.sheet.specs.Written.{escaped, written-run, written-runs, Row, item, place, rows-from, rows, written-row, joined, written-block, written}
-use Rattle.sheet.specs.Sound.{and-inv}
-use Rattle.sheet.proofs.Source.{false-true, a-letter, letter-space, letter-special}
-use Rattle.sheet.proofs.LineEnd.{space-first, Ended}
+use Rattle.sheet.specs.Grammar.{Many, stop, more, Line, ThenNL, IsList, IsBlock, is-heading, is-para}
+use Rattle.sheet.specs.Written.{written-runs, Row, item, place, rows-from, rows, written-row, joined, written-block, written}
+use Rattle.sheet.proofs.Facts.{visible}
+use Rattle.sheet.proofs.LineEnd.{space-first, solid-drop, Ended}
+use Rattle.sheet.proofs.Fronts.{front-empty, front-solid, good-of, first-append}
 use Rattle.sheet.proofs.PageOut.{gap, full-gap, block-out, wr, wr-written, wr-ended, after-first, written-first}
 
 -- the written form starts with no space, whatever stands after it
@@ -24,46 +24,15 @@ use Rattle.sheet.proofs.PageOut.{gap, full-gap, block-out, wr, wr-writt
 abbrev pub Solid : List ℕ → Type 0
 Solid w = (t : List ℕ) → space-first (w ++ t) ≡ false
 
-plain-solid : (u : List ℕ) → first-is is-letter u ≡ true → Solid (escaped u ++ [])
-unfolding first-is escaped
-plain-solid [] f t = false-true f
-plain-solid (x ∷ u) f t = let h = a-letter x f in rw (letter-special x h) (letter-space x h)
-
-run-solid : {s m : List ℕ} {x : Run} → IsRun s x m → first-letter (x ∷ []) ≡ true → Solid (written-run x)
-unfolding first-letter is-space
-run-solid (is-run {t = u} plain T g) f t = plain-solid u f t
-run-solid (is-run strong T g) f t = refl
-run-solid (is-run em T g) f t = refl
-run-solid (is-run both T g) f t = refl
-run-solid (is-run code T g) f t = refl
-
-no-first : {A : Type 0} → first-letter [] ≡ true → A
-unfolding first-letter
-no-first e = false-true e
-
-only-first : (x : Run) (rs : List Run) → first-letter (x ∷ rs) ≡ true → first-letter (x ∷ []) ≡ true
-unfolding first-letter
-only-first (run k t) rs f = f
-
-runs-solid : {s r : List ℕ} {rs : List Run} → Many IsRun s rs r → first-letter rs ≡ true → Solid (written-runs rs)
-unfolding written-runs
-runs-solid stop f t = no-first f
-runs-solid (more {x = x} {xs = rs} h ms) f t = ap space-first (append-assoc (written-run x) (written-runs rs) t) ∙ run-solid h (only-first x rs f) (written-runs rs ++ t)
-
 pub line-solid : {s r : List ℕ} {rs : List Run} → Line s rs r → Solid (written-runs rs)
-unfolding neat
-line-solid {rs = rs} (G.line m f) = runs-solid m (and-inv (apart rs) (first-letter rs) (and-inv (apart rs && first-letter rs) (last-no-blank rs) f .0) .1)
-
-hash : is-space 35 ≡ false
-unfolding is-space
-hash = refl
+line-solid {rs = rs} ln t = let f = good-of ln .front in first-append (written-runs rs) t (front-empty f) ∙ front-solid f
 
 heading-solid : (n : ℕ) → 1 ≤ n → (x : List ℕ) → Solid (repeat (min n 3) "#" ++ x)
 heading-solid n lo x t = go (min n 3) (omega arith)
   where
     go : (k : ℕ) → 1 ≤ k → space-first ((repeat k "#" ++ x) ++ t) ≡ false
     go zero h = absurd (omega arith)
-    go (suc k) h = hash
+    go (suc k) h = visible 35 (omega arith) (omega arith)
 
 first-row : (r : Row) (rs : List Row) → Solid (written-row r) → Solid (joined (str "\n") (map written-row (r ∷ rs)))
 unfolding joined
@@ -96,26 +65,21 @@ written-solid {b = b} bs h t =
 
 -- the trim
 
-no-spaces : (v : List ℕ) → space-first v ≡ false → drop-while is-space v ≡ v
-unfolding drop-while
-no-spaces [] e = refl
-no-spaces (a ∷ v) e = rw e
-
 trim-reverse : (o v : List ℕ) → space-first (reverse o) ≡ false → drop-while is-space o ≡ v → trim (reverse o) ≡ reverse v
 unfolding trim-end-matches
 trim-reverse o v e f =
-    ap (λ (x : List ℕ). reverse (drop-while is-space (reverse x))) (no-spaces (reverse o) e)
+    ap (λ (x : List ℕ). reverse (drop-while is-space (reverse x))) (solid-drop (reverse o) e)
     ∙ ap (λ (x : List ℕ). reverse (drop-while is-space x)) (reverse-reverse o)
     ∙ ap reverse f
 
 -- bytes 10 off the end
 one-off : (v : List ℕ) → Ended v → drop-while is-space (10 ∷ v) ≡ v
 unfolding drop-while is-space
-one-off v h = no-spaces v (h .solid)
+one-off v h = solid-drop v (h .solid)
 
 two-off : (v : List ℕ) → Ended v → drop-while is-space (10 ∷ 10 ∷ v) ≡ v
 unfolding drop-while is-space
-two-off v h = no-spaces v (h .solid)
+two-off v h = solid-drop v (h .solid)
 
 -- the output: the text w, last character first, and bytes 10 before that
 trim-after : (n w : List ℕ) → Solid w → drop-while is-space (n ++ reverse w) ≡ reverse w → trim (reverse (n ++ reverse w)) ≡ w

@@ -14,11 +14,11 @@ use lib.Seq.{take-append-seam, drop-append-seam}
 use Rattle.text.specs.Words.{case, is, starts, index, find}
 use Rattle.text.specs.Utf8.{size}
 use Rattle.text.specs.Trim.{trim}
+use Rattle.text.proofs.Tests.{and-true}
 use Rattle.reference.specs.Unescape.{unescape}
 use Rattle.html.specs.State.{State, text, put-all}
 use Rattle.html.specs.Page.{Turn, read, refused, words, comment, a-tag, markup, turn, tag-read, inside, on-turn, loop}
 use Rattle.sheet.specs.Grammar.{none-of}
-use Rattle.sheet.specs.Sound.{and-inv}
 
 -- the loop goes on
 unfoldable pub Low : List ℕ → Type 0
@@ -45,10 +45,10 @@ loop-stop (x ∷ s) c h = rw (le-ltb (size (c .out)) 16000 h)
 -- text before a tag
 
 pub find-first : (b : ℕ) (u s : List ℕ) → eqb b b ≡ true → none-of (λ a. eqb a b) u ≡ true → index (b ∷ []) (u ++ (b ∷ s)) ≡ some (length u)
-unfolding index none-of
+unfolding index
 find-first b [] s r e = rw r
 find-first b (a ∷ u) s r e =
-    let f = and-inv (not (eqb a b)) (none-of (λ a. eqb a b) u) e in
+    let f = and-true (not (eqb a b)) (none-of (λ a. eqb a b) u) e in
     rw (not-true (eqb a b) (f .0), find-first b u s r (f .1))
 
 turn-text : (u s : List ℕ) (c : State) → none-of (is "<") u ≡ true → turn (u ++ (60 ∷ s)) c ≡ markup (length u) (60 ∷ s) (words u c)
@@ -153,7 +153,6 @@ words-nil c = go (c .skip)
     go (some x) = refl
 
 pub turn-tag : (s : List ℕ) (c : State) → turn (60 ∷ s) c ≡ markup 0 (60 ∷ s) c
-unfolding none-of
 turn-tag s c = turn-text [] s c refl ∙ ap (markup 0 (60 ∷ s)) (words-nil c)
 
 go-on : (x : ℕ) (u s : List ℕ) (t : Turn) → Forward t → on-turn (moved (length (x ∷ u)) t) (λ n d. loop (n - 1) (u ++ (60 ∷ s)) d) ≡ on-turn t (λ n d. loop (n - 1) s d)

@@ -1,27 +1,57 @@
 -- The lines of a written form are its rows, with an empty line between two blocks.
 -- Assumes nothing.
 use Prim.Native.Nat.{ℕ, min}
+use native.Mathlib.Omega.{arith}
 use mathlib.Core.Path.{_≡_, refl, sym, _∙_, ap}
-use mathlib.Core.Bool.{Bool, true, false, cond}
+use mathlib.Core.Bool.{Bool, true, false, cond, not, _||_}
 use mathlib.Core.List.{List, [], _∷_, _++_, map, append-assoc}
-use borrow.Author.Tests.{not-true}
+use borrow.Author.Tests.{not-true, ne-eqb, eqb-true}
 use lib.Dec.{eqb}
 use Rattle.text.specs.Words.{str, repeat, all, is-empty}
+use Rattle.text.specs.Chars.{is-space, is-digit}
+use Rattle.text.proofs.Tests.{and-true, within-true}
 use Rattle.spans.specs.Spans.{spans}
 use Rattle.markdown.specs.Blocks.{before-lines, lines}
-use Rattle.sheet.specs.Tree.{Run, alone, with, items, Block}
+use Rattle.sheet.specs.Tree.{Run, run, alone, with, items, Block}
 use Rattle.sheet.specs.Grammar as G
 use Rattle.sheet.specs.Grammar.{Many, IsRun, is-run, stop, more, Line}
-use Rattle.sheet.specs.Written.{span, written-runs, Row, head, text, item, place, rows-from, rows, lead, written-row, joined, written-block, written}
-use Rattle.sheet.specs.Sound.{and-inv}
-use Rattle.sheet.proofs.Facts.{false-true}
-use Rattle.sheet.proofs.AllChars.{all-head, all-item}
-use Rattle.sheet.proofs.Solid.{inline, inline-marks, inline-runs}
+use Rattle.sheet.specs.Written.{span, written-run, written-runs, Row, head, text, item, place, rows-from, rows, lead, written-row, joined, written-block, written}
+use Rattle.sheet.proofs.Facts.{false-true, inked, no-space}
+use Rattle.sheet.proofs.AllChars.{all-append, all-weaker, Marks, all-run, all-head, all-item}
+use Rattle.sheet.proofs.Source.{inked-text}
 use Rattle.sheet.proofs.ReadBack.{all-fit, line-read}
-use Rattle.sheet.proofs.Fronts.{Good, good-of, neat-of, front-empty}
+use Rattle.sheet.proofs.Conditions.{neat-of}
+use Rattle.sheet.proofs.Fronts.{Good, good-of, front-empty}
 use Rattle.sheet.proofs.PageRead.{filled-append}
 use Rattle.sheet.proofs.EachLine.{Entries, Lines, a-heading, a-para, a-list, Each}
 use Rattle.sheet.proofs.EachLine as E
+
+-- ---- no byte 10 is written in a row
+abbrev pub inline : ℕ → Bool
+inline c = not (eqb c 10)
+
+inked-inline : (x : ℕ) → inked x ≡ true → inline x ≡ true
+unfolding is-space
+inked-inline x e = go (eqb x 32) refl e
+  where
+    go : (b : Bool) → eqb x 32 ≡ b → (b || not (is-space x)) ≡ true → inline x ≡ true
+    go true f h = ap inline (eqb-true x 32 f)
+    go false f h = ap not (no-space x 10 refl (not-true (is-space x) h))
+
+digit-inline : (c : ℕ) → is-digit c ≡ true → inline c ≡ true
+digit-inline c e = let f = within-true 48 57 c e in ap not (ne-eqb c 10 (λ e. omega arith))
+
+inline-marks : Marks inline
+inline-marks =
+    record { backslash = refl; star = refl; tick = refl; hash = refl; blank = refl; dash = refl; point = refl; digit = digit-inline }
+
+inline-runs : {s r : List ℕ} {rs : List Run} → Many IsRun s rs r → all inline (written-runs rs) ≡ true
+unfolding written-runs
+inline-runs stop = refl
+inline-runs (more {xs = rs} (is-run {t = t} k (G.text m) f) ms) =
+    all-append inline (written-run (run k t)) (written-runs rs)
+    (all-run inline inline-marks k t (all-weaker inked inline inked-inline t (inked-text m)))
+    (inline-runs ms)
 
 -- ---- what the reader needs of a line's runs
 pub record GoodRuns (l : List Run) : Type 0 where
@@ -49,14 +79,14 @@ lines-nl : (s t : List ℕ) → all inline s ≡ true → lines (s ++ (10 ∷ t)
 unfolding lines
 lines-nl [] t e = refl
 lines-nl (c ∷ s) t e =
-    let f = and-inv (inline c) (all inline s) e in
+    let f = and-true (inline c) (all inline s) e in
     rw (not-true (eqb c 10) (f .0), lines-nl s t (f .1))
 
 lines-last : (a : ℕ) (s : List ℕ) → all inline (a ∷ s) ≡ true → lines (a ∷ s) ≡ (a ∷ s) ∷ []
 unfolding lines
-lines-last a [] e = rw (not-true (eqb a 10) (and-inv (inline a) true e .0))
+lines-last a [] e = rw (not-true (eqb a 10) (and-true (inline a) true e .0))
 lines-last a (b ∷ s) e =
-    let f = and-inv (inline a) (all inline (b ∷ s)) e in
+    let f = and-true (inline a) (all inline (b ∷ s)) e in
     ap (λ (x : Bool). cond x ([] ∷ lines (b ∷ s)) (before-lines a (lines (b ∷ s)))) (not-true (eqb a 10) (f .0))
     ∙ ap (before-lines a) (lines-last b s (f .1))
 

@@ -8,27 +8,18 @@ use mathlib.Core.List.{List, [], _∷_, _++_, map}
 use lib.ListN.{length}
 use Rattle.text.specs.Words.{str, repeat, is-empty}
 use Rattle.text.specs.Utf8.{utf8, size}
-use Rattle.text.proofs.Laws.{utf8-size}
+use Rattle.text.proofs.Tests.{and-true}
+use Rattle.text.proofs.Laws.{utf8-size, size-append}
 use Rattle.html.specs.State.{special}
 use Rattle.sheet.specs.Tree.{Kind, Run, run, Block}
 use Rattle.sheet.specs.Grammar.{fits}
 use Rattle.sheet.specs.Written.{escaped, sign, written-run, written-runs, Row, head, item, lead, written-row, joined, written-block, written}
-use Rattle.sheet.specs.Sound.{and-inv}
 use Rattle.sheet.proofs.Facts.{false-true}
-use Rattle.sheet.proofs.ReadBack.{all-fit, filled-text}
-
-pub size-append : (s t : List ℕ) → size (s ++ t) ≡ size s + size t
-unfolding size
-size-append [] t = omega arith
-size-append (c ∷ s) t = omega (arith, size-append s t)
-
-pub length-size : (s : List ℕ) → length s ≤ size s
-unfolding size
-length-size [] = omega arith
-length-size (c ∷ s) = omega (arith, utf8-size c, length-size s)
+use Rattle.sheet.proofs.Conditions.{filled-text}
+use Rattle.sheet.proofs.ReadBack.{all-fit}
 
 -- ---- a text is no longer than what is written of it
-pub size-escaped : (t : List ℕ) → size t ≤ size (escaped t)
+size-escaped : (t : List ℕ) → size t ≤ size (escaped t)
 unfolding escaped size
 size-escaped [] = omega arith
 size-escaped (x ∷ t) = go (special x) (size-escaped t)
@@ -37,7 +28,7 @@ size-escaped (x ∷ t) = go (special x) (size-escaped t)
     go true h = omega arith
     go false h = omega arith
 
-pub size-run : (k : Kind) (t : List ℕ) → size t ≤ size (written-run (run k t))
+pub size-run : (k : Kind) (t : List ℕ) → size (sign k) + size (sign k) + size t ≤ size (written-run (run k t))
 size-run k t =
     omega (arith, size-escaped t, size-append (sign k) (escaped t ++ sign k), size-append (escaped t) (sign k))
 
@@ -51,7 +42,7 @@ pub runs-few : (l : List Run) → all-fit l ≡ true → length l ≤ size (writ
 unfolding written-runs all-fit
 runs-few [] h = omega arith
 runs-few (run k t ∷ rs) h =
-    let f = and-inv (fits k t) (all-fit rs) h in
+    let f = and-true (fits k t) (all-fit rs) h in
     omega (arith, size-append (written-run (run k t)) (written-runs rs), size-run k t, size-filled t (filled-text k t (f .0)), runs-few rs (f .1))
 
 -- ---- rows and blocks

@@ -1,12 +1,13 @@
--- The grammar of a sheet, document 01's section line by line, on characters. `X s t r`: the characters s begin with an X, whose tree is t, and r follows it.
+-- The grammar of a sheet: document 01, "Sheet", sentence by sentence; from the last definition, a page, up to the first, the tags, it is in the document's
+-- order. `X s t r`: the characters s begin with an X, whose tree is t, and r follows it.
+-- Assumes nothing.
 use Prim.Native.Nat.{ℕ, zero, suc, _+_, _≤_}
 use mathlib.Core.Path.{_≡_}
 use mathlib.Core.Bool.{Bool, true, false, not, _&&_, _||_}
-use mathlib.Core.Option.{Option, none, some}
 use mathlib.Core.List.{List, [], _∷_, _++_}
-use lib.Dec.{eqb}
-use Rattle.text.specs.Words.{str}
+use Rattle.text.specs.Words.{str, is, all}
 use Rattle.html.specs.State.{special}
+use Rattle.records.specs.Format.{non-empty}
 use Rattle.text.specs.Chars.{is-space, is-control, is-letter}
 use Rattle.sheet.specs.Tree.{Kind, plain, strong, em, both, code, Run, run, Mark, ul, ol, Items, Item, alone, with, items, Block, heading, para, list}
 
@@ -45,9 +46,9 @@ pub data NL : List ℕ → List ℕ → Type 0 where
   no-nl : {s : List ℕ} → NL s s
   nl : {s : List ℕ} → NL (10 ∷ s) s
 
--- A character of text: neither control nor space, or byte 32. `<` and `&` occur only as references. (What it stands for is in the middle.)
+-- Characters that are neither control nor space, and bytes 32. `<` and `&` occur only as `&lt;` and `&amp;`; `&gt;` and `&quot;` are allowed too.
 unfoldable pub shown : ℕ → Bool
-shown c = not (is-control c) && not (is-space c) && not (eqb c 60) && not (eqb c 38)
+shown c = not (is-control c) && not (is-space c) && not (is "<" c) && not (is "&" c)
 
 pub data Char : List ℕ → List ℕ → List ℕ → Type 0 where
   &lt : {s : List ℕ} → Char (str "&lt;" ++ s) (str "<") s
@@ -57,7 +58,7 @@ pub data Char : List ℕ → List ℕ → List ℕ → Type 0 where
   blank : {s : List ℕ} → Char (str " " ++ s) (str " ") s
   own : {s : List ℕ} (c : ℕ) → shown c ≡ true → Char (c ∷ s) (c ∷ []) s
 
--- zero or more of one kind, one after the other
+-- zero or more things of one sort, one after the other
 pub data Many {A : Type 0} (R : List ℕ → A → List ℕ → Type 0) : List ℕ → List A → List ℕ → Type 0 where
   stop : {s : List ℕ} → Many R s [] s
   more : {s m r : List ℕ} {x : A} {xs : List A} → R s x m → Many R m xs r → Many R s (x ∷ xs) r
@@ -66,7 +67,7 @@ abbrev pub concat : List (List ℕ) → List ℕ
 concat [] = []
 concat (q ∷ qs) = q ++ concat qs
 
--- Text: its bytes, references replaced
+-- Text, and its characters, references replaced.
 pub data Text : List ℕ → List ℕ → List ℕ → Type 0 where
   text : {s r : List ℕ} {qs : List (List ℕ)} → Many Char s qs r → Text s (concat qs) r
 
@@ -74,8 +75,9 @@ pub data Text : List ℕ → List ℕ → List ℕ → Type 0 where
 unfoldable pub singles : List ℕ → Bool
 singles [] = true
 singles (a ∷ []) = true
-singles (a ∷ b ∷ t) = not (eqb a 32 && eqb b 32) && singles (b ∷ t)
+singles (a ∷ b ∷ t) = not (is " " a && is " " b) && singles (b ∷ t)
 
+-- tests of a text's first character, of its last, and of all
 unfoldable pub first-is : (ℕ → Bool) → List ℕ → Bool
 first-is f [] = false
 first-is f (a ∷ t) = f a
@@ -85,22 +87,18 @@ last-is f [] = false
 last-is f (a ∷ []) = f a
 last-is f (a ∷ b ∷ t) = last-is f (b ∷ t)
 
-unfoldable pub none-of : (ℕ → Bool) → List ℕ → Bool
-none-of f [] = true
-none-of f (a ∷ t) = not (f a) && none-of f t
-
-abbrev pub any : ℕ → Bool
-any b = true
+abbrev pub none-of : (ℕ → Bool) → List ℕ → Bool
+none-of f t = all (λ c. not (f c)) t
 
 abbrev pub no-blank : ℕ → Bool
-no-blank b = not (eqb b 32)
+no-blank c = not (is " " c)
 
--- Non-empty; only a plain run may start or end with 32; code holds none of the special bytes.
+-- Non-empty. Only a plain run may start or end with 32. Code holds none of `\ * [ !` or the backtick.
 abbrev pub edges : List ℕ → Bool
 edges t = first-is no-blank t && last-is no-blank t
 
 abbrev pub allowed : Kind → List ℕ → Bool
-allowed plain t = first-is any t
+allowed plain t = non-empty t
 allowed strong t = edges t
 allowed em t = edges t
 allowed both t = edges t
@@ -109,25 +107,23 @@ allowed code t = edges t && none-of special t
 unfoldable pub fits : Kind → List ℕ → Bool
 fits k t = singles t && allowed k t
 
--- Two plain runs never touch, nor do two runs with <em>.
+-- Two plain runs never touch, nor do two runs with <em> (<strong><em> among them).
+abbrev pub is-plain : Kind → Bool
+is-plain plain = true
+is-plain strong = false
+is-plain em = false
+is-plain both = false
+is-plain code = false
+
+abbrev pub has-em : Kind → Bool
+has-em plain = false
+has-em strong = false
+has-em em = true
+has-em both = true
+has-em code = false
+
 abbrev pub touch : Kind → Kind → Bool
-touch plain plain = true
-touch plain strong = false
-touch plain em = false
-touch plain both = false
-touch plain code = false
-touch strong l = false
-touch em plain = false
-touch em strong = false
-touch em em = true
-touch em both = true
-touch em code = false
-touch both plain = false
-touch both strong = false
-touch both em = true
-touch both both = true
-touch both code = false
-touch code l = false
+touch k l = is-plain k && is-plain l || has-em k && has-em l
 
 unfoldable pub apart : List Run → Bool
 apart [] = true
@@ -147,10 +143,11 @@ last-no-blank (run k t ∷ run l u ∷ rs) = last-no-blank (run l u ∷ rs)
 unfoldable pub neat : List Run → Bool
 neat rs = apart rs && first-letter rs && last-no-blank rs
 
+-- A run: plain text, or text in its tags, closed in reverse.
 pub data IsRun : List ℕ → Run → List ℕ → Type 0 where
   is-run : {s t m : List ℕ} (k : Kind) → Text s t (after k ++ m) → fits k t ≡ true → IsRun (before k ++ s) (run k t) m
 
--- One or more runs (`first-letter` says that there is one).
+-- Line: one or more runs. (`first-letter` says that there is one.)
 pub data Line : List ℕ → List Run → List ℕ → Type 0 where
   line : {s r : List ℕ} {rs : List Run} → Many IsRun s rs r → neat rs ≡ true → Line s rs r
 

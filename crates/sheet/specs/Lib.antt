@@ -1,14 +1,14 @@
-pub mod Reading
+-- Document 01's sheet: its tree, its grammar, its written form and its blocks.
 pub mod Tree
 pub mod Grammar
-pub mod Reader
 pub mod Written
-pub mod Sound
-pub mod Complete
 pub mod Sheet
+-- The grammar as a computation, and the call.
+pub mod Reading
+pub mod Reader
+pub mod Calls
+-- What the contracts of the inner functions say.
 pub mod Weight
 pub mod Says
-pub mod Facts
+pub mod Keeps
 pub mod Forms
-pub mod Calls
-pub mod Pages

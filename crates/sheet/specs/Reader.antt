@@ -1,23 +1,23 @@
--- The reader: it computes the tree of a sheet. Each function reads one thing of `Grammar` at the front of the bytes, and answers it with the bytes after it.
+-- The reader: it computes the tree of a sheet. Each function reads one thing of `Grammar` at the front of the characters, and answers it with the
+-- characters after it; `page-sound` and `page-complete` (proofs/) show that it answers just what the grammar says.
+-- Assumes nothing.
 use Prim.Native.Nat.{ℕ, zero, suc, _-_}
-use mathlib.Core.Bool.{Bool, true, false}
 use mathlib.Core.Option.{Option, none, some}
-use mathlib.Core.List.{List, [], _∷_, _++_}
-use lib.Dec.{eqb}
+use mathlib.Core.List.{List, [], _∷_}
 use Prim.Native.String.{String}
 use lib.ListN.{length}
 use Rattle.text.specs.Words.{str, _>>=_, case}
 use Rattle.text.specs.Chars.{within}
 use Rattle.sheet.specs.Reading.{guard, _<|>_, strip, many}
 use Rattle.sheet.specs.Tree.{Kind, plain, strong, em, both, code, Run, run, Mark, ul, ol, Items, Item, alone, with, items, Block, heading, para, list}
-use Rattle.sheet.specs.Grammar.{opens, closes, opens-h, closes-h, before, after, shown, concat, fits, neat}
+use Rattle.sheet.specs.Grammar.{opens, closes, closes-h, before, after, shown, concat, fits, neat}
 
--- an answer, and the bytes after it
+-- an answer, and the characters after it
 abbrev pub Answer : Type 0 → Type 0
 Answer A = Option (A × List ℕ)
 
 abbrev pub nl? : List ℕ → List ℕ
-nl? s = case (strip (10 ∷ []) s) s (λ r. r)
+nl? s = case (strip (str "\n") s) s (λ r. r)
 
 unfoldable pub own : List ℕ → Answer (List ℕ)
 own [] = none
@@ -90,6 +90,7 @@ unfoldable pub read-list : ℕ → List ℕ → Answer (Mark × Items)
 read-list zero s = none
 read-list (suc d) s = list-of (item (read-list d)) s
 
+-- N, 1 to 6
 abbrev pub digit : List ℕ → Answer ℕ
 digit [] = none
 digit (b ∷ s) = guard (within 49 54 b) (some (b - 48, s))

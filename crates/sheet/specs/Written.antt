@@ -1,7 +1,7 @@
 -- The written form of a tree, and its blocks (document 01, "Sheet": "Tree" and "Written form").
 -- Assumes nothing.
 use Prim.Native.Nat.{ℕ, zero, suc, min}
-use mathlib.Core.Bool.{Bool, true, false}
+use mathlib.Core.Bool.{true, false}
 use mathlib.Core.List.{List, [], _∷_, _++_, map}
 use Rattle.text.specs.Words.{if_then_else_, str, repeat}
 use Rattle.text.specs.Decimal.{decimal}

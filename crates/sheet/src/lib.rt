@@ -4,7 +4,7 @@ ghost use Prim.Native.Nat.{_-_, _≤_, min};
 ghost use Rattle.sheet.specs.Reader.{headed, read-heading, read-para, block};
 ghost use Rattle.sheet.specs.Says.{from, Says};
 ghost use Rattle.sheet.specs.Forms.{block-form};
-ghost use Rattle.sheet.specs.Pages.{judged};
+ghost use Rattle.sheet.specs.Weight.{judged};
 ghost use Rattle.sheet.specs.Calls.{sheet-call, answer};
 
 mod count;

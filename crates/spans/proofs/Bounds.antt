@@ -7,9 +7,8 @@ use mathlib.Core.Bool.{Bool}
 use mathlib.Core.List.{List, [], _∷_}
 use lib.ListN.{length, take, length-append, length-take}
 use Rattle.text.specs.Utf8.{utf8, size}
-use Rattle.text.proofs.Laws.{utf8-size}
+use Rattle.text.proofs.Laws.{utf8-size, size-encode}
 use Rattle.records.specs.Blocks.{Span}
-use Rattle.records.proofs.TextMore.{size-encode}
 use Rattle.records.specs.Format.{encode-text, encode-span, encode-spans}
 use Rattle.spans.specs.Spans.{Walk, step, spans}
 use Rattle.spans.specs.Turn.{Turn, turned, text-form, records-of}
@@ -73,7 +72,7 @@ weigh-bytes (c ∷ s) = ap (λ (n : ℕ). length (utf8 c) + n) (weigh-bytes s)
 some-bytes : (c : ℕ) → 1 ≤ bytes c
 some-bytes c = utf8-size c .0
 
-text-long : (t : List ℕ) → length (encode-text t) ≤ 4 + size t
+pub text-long : (t : List ℕ) → length (encode-text t) ≤ 4 + size t
 text-long [] = omega arith
 text-long (c ∷ t) = omega (arith, size-encode (c ∷ t))
 

@@ -1,7 +1,7 @@
 -- The spans of a line's bytes are those of its characters, their texts as bytes: every mark is ASCII, and no byte of another character is.
 -- Assumes nothing.
 use mathlib.Core.Path.{_≡_, refl, sym, ap, ap₂, _∙_, subst}
-use mathlib.Core.Logic.{_⊎_, ⊎-elim}
+use mathlib.Core.Logic.{⊎-elim}
 use Prim.Native.Nat.{ℕ, zero, suc, _+_, _≤_, _<_}
 use native.Mathlib.Omega.{arith}
 use mathlib.Core.Bool.{Bool, true, false, not}
@@ -21,7 +21,7 @@ use Rattle.text.proofs.Laws.{chars-nil, chars-at, chars-bad, Tails, Long, utf8-
 use Rattle.text.proofs.AsciiLaws.{chars-ascii, chars-high}
 use Rattle.records.specs.Blocks.{Span}
 use Rattle.spans.specs.Spans.{Walk, at, push, span, flush, link, Step, made, label, kept, code-step, star-step, link-step, image-step, step, carry, walk, spans}
-use Rattle.spans.specs.Turn.{turn, linked, turned}
+use Rattle.spans.specs.Turn.{linked, turned}
 use Rattle.spans.proofs.SpanLaws.{shorter-drop, shorter-take, walk-end, walk-next, after, spans-eq}
 use Rattle.spans.proofs.Both.{Hit, both, starts-both, rest-both, LinkHit, link-both}
 

@@ -10,18 +10,15 @@ use lib.ListN.{length, length-append, length-map}
 use lib.Seq.{sets}
 use lib.Dec.{leb}
 use borrow.Author.Tests.{le-leb, lt-leb, leb-true}
-use Rattle.text.specs.Utf8.{Scalars, utf8, encode, chars, size}
+use Rattle.text.specs.Utf8.{utf8, encode, chars, size}
 use Rattle.text.proofs.Tests.{and-false, and-true, on}
-use Rattle.text.proofs.Laws.{utf8-size, chars-nil, encode-chars}
+use Rattle.text.proofs.Laws.{utf8-size, size-encode, size-chars}
 use Rattle.records.specs.Blocks.{Span}
-use Rattle.records.proofs.TextMore.{size-encode}
-use Rattle.records.specs.Format.{le32, non-empty, encode-text, encode-span, encode-spans, WfSpans}
+use Rattle.records.specs.Format.{le32, non-empty, encode-text, encode-span, encode-spans}
 use Rattle.spans.specs.Spans.{spans}
 use Rattle.spans.specs.Line.{line-spans}
 use Rattle.spans.specs.Turn.{map-byte, text-form, record-of, records-of}
-use Rattle.spans.proofs.SpanLaws.{spans-nil}
-use Rattle.spans.proofs.Bounds.{spans-small, spans-few}
-use Rattle.spans.proofs.Wf.{spans-wf}
+use Rattle.spans.proofs.Bounds.{spans-few}
 use Rattle.spans.proofs.Bytes.{as-bytes, spans-bytes}
 
 -- a text and its bytes have the same form
@@ -31,7 +28,7 @@ text-same (c ∷ t) = go (encode (c ∷ t)) refl
   where
     go : (l : List ℕ) → encode (c ∷ t) ≡ l → text-form l ≡ le32 (size (c ∷ t)) ++ encode (c ∷ t)
     go [] e = absurd (omega (arith, ap length e, length-append (utf8 c) (encode t), utf8-size c .0))
-    go (x ∷ l) e = ap₂ (λ (n : ℕ) (z : List ℕ). le32 n ++ z) (ap length (sym e) ∙ sym (size-encode (c ∷ t))) (sym e)
+    go (x ∷ l) e = ap₂ (λ (n : ℕ) (z : List ℕ). le32 n ++ z) (ap length (sym e) ∙ size-encode (c ∷ t)) (sym e)
 
 some-same : (t : List ℕ) → non-empty (encode t) ≡ non-empty t
 some-same [] = refl
@@ -84,24 +81,10 @@ line-by P line at f g =
     (λ e. g (leb-true (length line) 1048576 (and-true (leb (length line) 1048576) (leb at (2 ^ 40)) e .0)))
     (λ _. f)
 
-chars-size : (line : List ℕ) → size (chars line) ≡ length line
-chars-size line = size-encode (chars line) ∙ ap length (encode-chars line)
-
-pub line-nil : (at : ℕ) → line-spans [] at ≡ []
-line-nil at = line-by (λ (ss : List Span). ss ≡ []) [] at refl (λ _. ap spans chars-nil ∙ spans-nil)
-
--- the records of a line are at most six times as long as its bytes, it has few spans, and they all have a record where it is UTF-8
-pub line-small : (line : List ℕ) (at : ℕ) → length (encode-spans (line-spans line at)) ≤ 6 * length line
-line-small line at =
-    line-by (λ ss. length (encode-spans ss) ≤ 6 * length line) line at (unfold encode-spans in omega arith)
-    (λ _. omega (arith, spans-small (chars line), chars-size line))
-
+-- a line has few spans
 pub line-few : (line : List ℕ) (at : ℕ) → 5 * length (line-spans line at) ≤ 6 * length line
 line-few line at =
-    line-by (λ ss. 5 * length ss ≤ 6 * length line) line at (omega arith) (λ _. omega (arith, spans-few (chars line), chars-size line))
-
-pub line-wf : (line : List ℕ) (at : ℕ) → Scalars (chars line) → WfSpans (line-spans line at)
-line-wf line at h = line-by WfSpans line at tt (λ k. spans-wf (chars line) h (omega (arith, chars-size line)))
+    line-by (λ ss. 5 * length ss ≤ 6 * length line) line at (omega arith) (λ _. omega (arith, spans-few (chars line), size-chars line))
 
 -- ---- what `spans` answers and stores
 

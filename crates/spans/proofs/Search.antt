@@ -1,8 +1,8 @@
 -- Searches: what one step of a search keeps, what an earlier search of the same line is worth, and a link's two searches with the test between.
 -- Assumes nothing.
 use mathlib.Core.Path.{_≡_, refl, ap, ap₂, _∙_}
-use mathlib.Core.Logic.{_⊎_, ⊎-elim}
-use Prim.Native.Nat.{ℕ, suc, _+_, _-_, _≤_, _<_}
+use mathlib.Core.Logic.{⊎-elim}
+use Prim.Native.Nat.{ℕ, suc, _+_, _≤_, _<_}
 use native.Mathlib.Omega.{arith}
 use native.Mathlib.Numerals.{add-one}
 use mathlib.Core.Bool.{Bool, true, false, _&&_}

@@ -1,7 +1,7 @@
 -- The laws of `spans`: the loop turn by turn, and that any depth above the length of a line gives its spans.
 -- Assumes nothing.
 use mathlib.Core.Path.{_≡_, refl, sym, ap, _∙_}
-use Prim.Native.Nat.{ℕ, zero, suc, _+_, _-_, _≤_, _<_}
+use Prim.Native.Nat.{ℕ, zero, suc, _≤_, _<_}
 use native.Mathlib.Omega.{arith}
 use mathlib.Core.Bool.{false}
 use mathlib.Core.List.{List, [], _∷_, _++_, map, append-assoc}
@@ -83,7 +83,3 @@ pub spans-eq : (line : List ℕ) → spans line ≡ walk spans (at false false [
 unfolding spans spans-at
 spans-eq line =
     walk-same (length line) (spans-at (length line)) spans (at false false []) line (omega arith) (λ l h. spans-depth (length line) l h)
-
-pub spans-nil : spans [] ≡ []
-unfolding spans spans-at walk flush
-spans-nil = refl

@@ -2,10 +2,10 @@
 -- Assumes nothing.
 use Prim.Native.Nat.{ℕ, zero, suc, _+_}
 use mathlib.Core.Bool.{Bool, true, false, not, _&&_, _||_}
-use mathlib.Core.Option.{Option, none, some}
+use mathlib.Core.Option.{Option, some}
 use mathlib.Core.List.{List, [], _∷_, _++_, map, reverse}
 use lib.ListN.{length, take, drop, getD}
-use Rattle.text.specs.Words.{if_then_else_, _>>=_, ensure, case, is, is-empty, starts, index, find}
+use Rattle.text.specs.Words.{if_then_else_, _>>=_, ensure, case, is, is-empty, starts, find}
 use Rattle.records.specs.Blocks.{Span}
 
 -- where the walk stands: the emphasis, and the text that is in no span yet, last character first

@@ -5,7 +5,7 @@ use lib.ListN.{replicate}
 use borrow.Author.Tests.{not-true, not-false}
 use native.Mathlib.Omega.{arith}
 use Prim.Native.Nat.{ℕ}
-use mathlib.Core.Path.{_≡_, refl, sym, ap, _∙_}
+use mathlib.Core.Path.{sym, ap, _∙_}
 use borrow.Author.Needs.{needs}
 use Rattle.markdown.proofs.blocks.Statement.{statement}
 use Rattle.markdown.proofs.blocks.Tie as tie

@@ -4,7 +4,7 @@ use Rattle.markdown.proofs.ReadAll.{Reading, reading-none, reading-room
 use lib.ListN.{length}
 use borrow.Author.Needs.{needs}
 use native.Mathlib.Omega.{arith}
-use mathlib.Core.Path.{_≡_, refl, sym, ap, _∙_, subst}
+use mathlib.Core.Path.{_∙_}
 use Prim.Native.Nat.{_+_, _-_}
 use Rattle.markdown.proofs.read.Statement.{statement}
 use Rattle.markdown.proofs.read.Tie as tie

@@ -1,7 +1,7 @@
 -- `bang` makes the turn at an exclamation mark.
 -- Assumes nothing.
 use mathlib.Core.Path.{refl, sym, _∙_}
-use Prim.Native.Nat.{_+_, _-_}
+use Prim.Native.Nat.{_+_}
 use native.Mathlib.Omega.{arith}
 use Rattle.spans.proofs.Search.{link-found, unlinked}
 use Rattle.spans.proofs.Marks.{bang-last, bang-other, bang-none, bang-some}

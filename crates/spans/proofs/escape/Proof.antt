@@ -1,7 +1,6 @@
 -- `escape` makes the turn at a backslash.
 -- Assumes nothing.
 use mathlib.Core.Path.{refl}
-use Prim.Native.Nat.{_-_}
 use Rattle.spans.proofs.Marks.{escape-next, escape-last}
 use Rattle.spans.proofs.Made.{made-as, push-made}
 use borrow.Author.Needs.{needs}

@@ -1,7 +1,7 @@
 -- `join_label`: the pending text is ended if the label gave spans.
 -- Assumes nothing.
 use mathlib.Core.Path.{refl, sym, ap, _∙_}
-use Prim.Native.Nat.{ℕ, _+_, _-_}
+use Prim.Native.Nat.{ℕ, _+_}
 use native.Mathlib.Omega.{arith}
 use lib.Seq.{sets}
 use Rattle.spans.specs.State.{link-by, link-head}

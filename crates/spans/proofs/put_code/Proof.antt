@@ -1,7 +1,6 @@
 -- `put_code` stores the record of a span of code.
 -- Assumes nothing.
 use mathlib.Core.Path.{refl, ap₂, _∙_}
-use Prim.Native.Nat.{_-_}
 use mathlib.Core.Bool.{Bool, true, false}
 use Rattle.spans.specs.Turn.{map-byte}
 use Rattle.spans.proofs.Made.{same-state, code-empty, code-some}

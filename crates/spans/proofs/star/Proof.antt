@@ -1,7 +1,7 @@
 -- `star` makes the turn at a star.
 -- Assumes nothing.
 use mathlib.Core.Path.{refl, sym}
-use Prim.Native.Nat.{_+_, _-_}
+use Prim.Native.Nat.{_+_}
 use native.Mathlib.Nat.{add-zero}
 use Rattle.spans.proofs.Marks.{star-two, star-one, star-last}
 use Rattle.spans.proofs.Made.{made-as, toggle-made}

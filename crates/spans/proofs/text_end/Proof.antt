@@ -1,7 +1,6 @@
 -- `text_end`: the pending text, with its head where it is not empty.
 -- Assumes nothing.
 use mathlib.Core.Path.{ap}
-use Prim.Native.Nat.{_-_}
 use native.Mathlib.Omega.{arith}
 use Rattle.spans.specs.State.{pend}
 use Rattle.spans.proofs.Made.{pend-some}

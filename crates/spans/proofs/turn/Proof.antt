@@ -1,7 +1,6 @@
 -- `turn` makes the turn at any byte but `[`.
 -- Assumes nothing.
 use mathlib.Core.Path.{refl}
-use Prim.Native.Nat.{_-_}
 use Rattle.spans.proofs.Marks.{plain-turn}
 use Rattle.spans.proofs.Made.{made-as, push-made}
 use borrow.Author.Needs.{needs}

@@ -1,11 +1,11 @@
 -- `markdown::lines::commented` meets its contract. The loop's invariant: what is stored and what is left make up the line.
 -- Assumes nothing.
 use Rattle.markdown.proofs.Reading.{Copying, copying-none, copied-break, copied-end, copied-comment, copied-other}
-use lib.ListN.{length, drop, length-set}
+use lib.ListN.{length}
 use borrow.Author.Needs.{needs}
 use native.Mathlib.Omega.{arith}
-use mathlib.Core.Path.{_≡_, refl, sym, ap, _∙_}
-use Prim.Native.Nat.{_+_, _-_, _≤_, _<_}
+use mathlib.Core.Path.{sym, _∙_}
+use Prim.Native.Nat.{_-_}
 use Rattle.markdown.proofs.lines.commented.Statement.{statement}
 use Rattle.markdown.proofs.lines.commented.Tie as tie
 

@@ -2,8 +2,7 @@
 -- Assumes nothing.
 use Rattle.markdown.proofs.ParagraphLaws.{Copies, copies-none, copies-more, copies-all}
 use native.Mathlib.Omega.{arith}
-use mathlib.Core.Path.{_≡_, refl}
-use Prim.Native.Nat.{_+_, _-_, _≤_}
+use Prim.Native.Nat.{_-_}
 use Rattle.markdown.proofs.lines.copy_part.Statement.{statement}
 use Rattle.markdown.proofs.lines.copy_part.Tie as tie
 

@@ -1,11 +1,11 @@
 -- `markdown::lines::next_line` meets its contract.
 -- Assumes nothing.
 use Rattle.markdown.proofs.Reading.{Passing, passing-none, passing-other, passed-break, passed-end, passed-comment}
-use lib.ListN.{length, drop}
+use lib.ListN.{length}
 use borrow.Author.Needs.{needs}
 use native.Mathlib.Omega.{arith}
 use mathlib.Core.Path.{_≡_, refl, sym, ap, _∙_}
-use Prim.Native.Nat.{_+_, _-_, _≤_, _<_}
+use Prim.Native.Nat.{_-_}
 use Rattle.markdown.proofs.lines.next_line.Statement.{statement}
 use Rattle.markdown.proofs.lines.next_line.Tie as tie
 

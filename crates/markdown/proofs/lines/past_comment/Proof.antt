@@ -6,8 +6,8 @@ use Rattle.markdown.specs.Parts.{from}
 use lib.ListN.{length, drop}
 use borrow.Author.Needs.{needs}
 use native.Mathlib.Omega.{arith}
-use mathlib.Core.Path.{_≡_, refl, sym, ap, _∙_}
-use Prim.Native.Nat.{_+_, _-_, _≤_, _<_}
+use mathlib.Core.Path.{_≡_, refl, sym, _∙_}
+use Prim.Native.Nat.{_-_, _≤_}
 use Rattle.markdown.proofs.lines.past_comment.Statement.{statement}
 use Rattle.markdown.proofs.lines.past_comment.Tie as tie
 

@@ -1,6 +1,5 @@
 -- `markdown::lines::text_of` meets its contract.
 -- Assumes nothing.
-use mathlib.Core.Path.{_≡_, refl, sym, ap, _∙_}
 use Rattle.markdown.specs.Parts.{text-of}
 use borrow.Author.Needs.{needs}
 use Rattle.markdown.proofs.lines.text_of.Statement.{statement}

@@ -2,7 +2,6 @@
 -- Assumes nothing.
 use Rattle.markdown.proofs.StateLaws.{given-inside, given-small, heading-text}
 use native.Mathlib.Omega.{arith}
-use mathlib.Core.Path.{_≡_, refl, sym, ap, _∙_}
 use borrow.Author.Needs.{needs}
 use Rattle.markdown.proofs.reader.heading_line.Statement.{statement}
 use Rattle.markdown.proofs.reader.heading_line.Tie as tie

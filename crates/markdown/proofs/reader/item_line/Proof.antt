@@ -4,7 +4,7 @@ use Rattle.markdown.proofs.StateLaws.{given-inside, given-small, item-t
 use native.Mathlib.Omega.{arith}
 use Rattle.text.specs.Words.{all}
 use Rattle.text.specs.Chars.{is-digit}
-use mathlib.Core.Path.{_≡_, refl, sym, ap, _∙_}
+use mathlib.Core.Path.{ap, _∙_}
 use borrow.Author.Needs.{needs}
 use Rattle.markdown.proofs.reader.item_line.Statement.{statement}
 use Rattle.markdown.proofs.reader.item_line.Tie as tie

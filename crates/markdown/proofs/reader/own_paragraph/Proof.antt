@@ -3,7 +3,6 @@
 use Rattle.markdown.proofs.ParagraphLaws.{owned-there, owned-copied}
 use Rattle.markdown.proofs.StateLaws.{safe-inside, safe-long}
 use native.Mathlib.Omega.{arith}
-use mathlib.Core.Path.{refl}
 use borrow.Author.Needs.{needs}
 use Rattle.markdown.proofs.reader.own_paragraph.Statement.{statement}
 use Rattle.markdown.proofs.reader.own_paragraph.Tie as tie

@@ -1,11 +1,9 @@
 -- `markdown::read_line` meets its contract.
 -- Assumes nothing.
 use Rattle.markdown.proofs.ReadLine.{whole-inside, sub-in, sub-given, here-given, sub-fits, opens-inside, wrapped-inside, text-in, row-scalars, item-ascii, step-ends, step-headed, step-opens, step-listed, step-row, step-wrapped, step-text}
-use Rattle.markdown.specs.declared.shape.Class.the-variants.{Ends, Headed, Opens, Listed, Row, Wrapped, Text}
+use Rattle.markdown.specs.declared.shape.Class.the-variants.{Headed, Opens, Listed, Row, Wrapped, Text}
 use Rattle.markdown.specs.Shape.{Says}
 use native.Mathlib.Omega.{arith}
-use mathlib.Core.Path.{_≡_, refl, sym, ap, _∙_}
-use Prim.Native.Nat.{_+_}
 use borrow.Author.Needs.{needs}
 use Rattle.markdown.proofs.reader.read_line.Statement.{statement}
 use Rattle.markdown.proofs.reader.read_line.Tie as tie

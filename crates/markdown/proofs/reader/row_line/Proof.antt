@@ -5,7 +5,7 @@ use Rattle.text.specs.Utf8.{chars, Scalars}
 use Prim.Native.Nat.{ℕ}
 use mathlib.Core.List.{List}
 use native.Mathlib.Omega.{arith}
-use mathlib.Core.Path.{_≡_, sym, ap, _∙_, subst}
+use mathlib.Core.Path.{sym, subst}
 use borrow.Author.Needs.{needs}
 use Rattle.markdown.proofs.reader.row_line.Statement.{statement}
 use Rattle.markdown.proofs.reader.row_line.Tie as tie

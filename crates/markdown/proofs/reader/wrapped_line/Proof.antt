@@ -3,7 +3,7 @@
 use Rattle.markdown.proofs.LineSteps.{continue-text, wrapped-text}
 use Rattle.markdown.proofs.StateLaws.{given-inside, given-small}
 use native.Mathlib.Omega.{arith}
-use mathlib.Core.Path.{_≡_, sym, _∙_}
+use mathlib.Core.Path.{sym, _∙_}
 use borrow.Author.Needs.{needs}
 use Rattle.markdown.proofs.reader.wrapped_line.Statement.{statement}
 use Rattle.markdown.proofs.reader.wrapped_line.Tie as tie

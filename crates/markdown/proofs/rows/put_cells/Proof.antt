@@ -1,11 +1,10 @@
 -- `markdown::rows::put_cells` meets its contract. The loop's invariant: what is stored and the cells of what is left make up the row's.
 -- Assumes nothing.
 use Rattle.markdown.proofs.CellFill.{Filling, filling-none, spaced-in, filling-spaced, filling-bar, filling-kept, filling-end}
-use lib.ListN.{length}
 use borrow.Author.Needs.{needs}
 use native.Mathlib.Omega.{arith}
-use mathlib.Core.Path.{_≡_, refl, sym, ap, _∙_}
-use Prim.Native.Nat.{ℕ, _+_, _-_, _≤_}
+use mathlib.Core.Path.{sym, _∙_}
+use Prim.Native.Nat.{_-_}
 use Rattle.markdown.proofs.rows.put_cells.Statement.{statement}
 use Rattle.markdown.proofs.rows.put_cells.Tie as tie
 

@@ -3,8 +3,7 @@
 use Rattle.markdown.proofs.CellFill.{row-start, row-stored}
 use Rattle.markdown.proofs.PartLaws.{part-length}
 use native.Mathlib.Omega.{arith}
-use mathlib.Core.Path.{_≡_, refl, sym, ap, _∙_}
-use Prim.Native.Nat.{ℕ, _+_, _-_, _≤_}
+use Prim.Native.Nat.{_+_, _≤_}
 use borrow.Author.Needs.{needs}
 use Rattle.markdown.proofs.rows.put_row.Statement.{statement}
 use Rattle.markdown.proofs.rows.put_row.Tie as tie

@@ -8,7 +8,7 @@ use lib.ListN.{length}
 use Rattle.markdown.specs.Shape.{Says}
 use Rattle.markdown.specs.declared.shape.Class.the-variants.{Headed}
 use native.Mathlib.Omega.{arith}
-use mathlib.Core.Path.{_≡_, refl, sym, ap, _∙_}
+use mathlib.Core.Path.{_∙_}
 use borrow.Author.Needs.{needs}
 use Rattle.markdown.proofs.shape.classify.Statement.{statement}
 use Rattle.markdown.proofs.shape.classify.Tie as tie

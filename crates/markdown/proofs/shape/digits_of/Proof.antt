@@ -7,8 +7,8 @@ use lib.ListN.{length, drop}
 use borrow.Author.Tests.{not-true, not-false}
 use borrow.Author.Needs.{needs}
 use native.Mathlib.Omega.{arith}
-use mathlib.Core.Path.{_≡_, refl, sym, ap, _∙_}
-use Prim.Native.Nat.{ℕ, _+_, _-_, _≤_}
+use mathlib.Core.Path.{_≡_, sym, ap, _∙_}
+use Prim.Native.Nat.{_+_, _-_, _≤_}
 use Rattle.markdown.proofs.shape.digits_of.Statement.{statement}
 use Rattle.markdown.proofs.shape.digits_of.Tie as tie
 

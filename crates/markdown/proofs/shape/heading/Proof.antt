@@ -3,7 +3,7 @@
 use Rattle.markdown.proofs.ShapeLaws.{title-long, title-other, title-inside, title-is}
 use borrow.Author.Tests.{not-true, not-false}
 use native.Mathlib.Omega.{arith}
-use mathlib.Core.Path.{_≡_, refl, sym, ap, _∙_}
+use mathlib.Core.Path.{sym, _∙_}
 use borrow.Author.Needs.{needs}
 use Rattle.markdown.proofs.shape.heading.Statement.{statement}
 use Rattle.markdown.proofs.shape.heading.Tie as tie

@@ -4,7 +4,7 @@ use Rattle.markdown.proofs.ShapeLaws.{bullet-inside, bullet-is, digits-
 use Rattle.text.proofs.TrimLaws.{start-le}
 use borrow.Author.Tests.{not-true, not-false}
 use native.Mathlib.Omega.{arith}
-use mathlib.Core.Path.{_≡_, refl, sym, ap, _∙_}
+use mathlib.Core.Path.{sym, _∙_}
 use borrow.Author.Needs.{needs}
 use Rattle.markdown.proofs.shape.list_marker.Statement.{statement}
 use Rattle.markdown.proofs.shape.list_marker.Tie as tie

@@ -2,7 +2,6 @@
 -- Assumes nothing.
 use Rattle.markdown.proofs.PartLaws.{start-in, trimmed-is}
 use native.Mathlib.Omega.{arith}
-use mathlib.Core.Path.{_≡_, refl, sym, ap, _∙_}
 use borrow.Author.Needs.{needs}
 use Rattle.markdown.proofs.shape.trimmed.Statement.{statement}
 use Rattle.markdown.proofs.shape.trimmed.Tie as tie

@@ -2,7 +2,7 @@
 -- Assumes nothing.
 use Rattle.markdown.proofs.ShapeLaws.{bare-rule, bare-row, bare-wrapped, bare-text}
 use native.Mathlib.Omega.{arith}
-use mathlib.Core.Path.{_≡_, refl, sym, ap, _∙_}
+use mathlib.Core.Path.{sym, _∙_}
 use borrow.Author.Needs.{needs}
 use Rattle.markdown.proofs.shape.unmarked.Statement.{statement}
 use Rattle.markdown.proofs.shape.unmarked.Tie as tie

@@ -4,7 +4,6 @@ use Rattle.markdown.proofs.StoreLaws.{start-low, continue-state, contin
 use Rattle.spans.proofs.LineLaws.{line-few}
 use native.Mathlib.Omega.{arith}
 use Prim.Native.Nat.{_+_}
-use mathlib.Core.Path.{_≡_, refl, sym, ap, _∙_}
 use borrow.Author.Needs.{needs}
 use Rattle.markdown.proofs.writer.continue_item.Statement.{statement}
 use Rattle.markdown.proofs.writer.continue_item.Tie as tie

@@ -1,8 +1,6 @@
 -- `markdown::put_fields` meets its contract.
 -- Assumes nothing.
 use Rattle.markdown.proofs.StoreLaws.{fields-flat, fields-deep}
-use native.Mathlib.Omega.{arith}
-use mathlib.Core.Path.{_≡_, refl, sym, ap, _∙_}
 use borrow.Author.Needs.{needs}
 use Rattle.markdown.proofs.writer.put_fields.Statement.{statement}
 use Rattle.markdown.proofs.writer.put_fields.Tie as tie

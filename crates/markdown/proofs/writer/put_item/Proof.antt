@@ -7,7 +7,7 @@ use Rattle.text.specs.Utf8.{chars}
 use Rattle.spans.specs.Spans.{spans}
 use Rattle.records.specs.Blocks.{Item}
 use native.Mathlib.Omega.{arith}
-use mathlib.Core.Path.{_≡_, refl, sym, ap, _∙_}
+use mathlib.Core.Path.{sym, _∙_}
 use borrow.Author.Needs.{needs}
 use Rattle.markdown.proofs.writer.put_item.Statement.{statement}
 use Rattle.markdown.proofs.writer.put_item.Tie as tie

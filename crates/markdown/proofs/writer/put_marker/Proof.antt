@@ -1,8 +1,6 @@
 -- `markdown::put_marker` meets its contract.
 -- Assumes nothing.
 use Rattle.markdown.proofs.StoreLaws.{marker-none, marker-some}
-use native.Mathlib.Omega.{arith}
-use mathlib.Core.Path.{_≡_, refl, sym, ap, _∙_}
 use borrow.Author.Needs.{needs}
 use Rattle.markdown.proofs.writer.put_marker.Statement.{statement}
 use Rattle.markdown.proofs.writer.put_marker.Tie as tie

@@ -1,7 +1,7 @@
 -- `sheet::line::joined` meets its contract.
 -- Assumes nothing.
 use native.Mathlib.Omega.{arith}
-use Rattle.sheet.specs.Facts.{kind-of}
+use Rattle.sheet.specs.Keeps.{kind-of}
 use Rattle.sheet.proofs.TestLine.{sign-short}
 use borrow.Author.Needs.{needs}
 use Rattle.sheet.proofs.line.joined.Statement.{statement}

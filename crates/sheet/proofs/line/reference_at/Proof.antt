@@ -5,7 +5,7 @@ use Prim.Native.Nat.{_+_}
 use native.Mathlib.Omega.{arith}
 use Rattle.text.specs.Words.{str}
 use Rattle.sheet.specs.Says.{from}
-use Rattle.sheet.specs.Facts.{referred}
+use Rattle.sheet.specs.Keeps.{referred}
 use Rattle.sheet.proofs.TestTags.{stands, missing}
 use Rattle.sheet.proofs.TestText.{spells, unspelt, char-1, char-2, char-3, char-4, char-5, char-6}
 use borrow.Author.Needs.{needs}

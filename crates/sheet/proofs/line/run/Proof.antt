@@ -6,7 +6,7 @@ use native.Mathlib.Omega.{arith}
 use borrow.Author.Tests.{not-true, not-false}
 use lib.ListN.{length}
 use Rattle.sheet.specs.Grammar.{after}
-use Rattle.sheet.specs.Facts.{kind-of}
+use Rattle.sheet.specs.Keeps.{kind-of}
 use Rattle.sheet.proofs.TestTags.{no-tag}
 use Rattle.sheet.proofs.TestRuns.{not-ran, run-0, run-1, run-2, run-bound, run-3}
 use borrow.Author.Needs.{needs}

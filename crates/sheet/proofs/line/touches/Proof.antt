@@ -1,7 +1,5 @@
 -- `sheet::line::touches` meets its contract.
 -- Assumes nothing.
-use Rattle.sheet.specs.Facts.{kind-of}
-use Rattle.sheet.proofs.TestRuns.{touching}
 use borrow.Author.Needs.{needs}
 use Rattle.sheet.proofs.line.touches.Statement.{statement}
 use Rattle.sheet.proofs.line.touches.Tie as tie
@@ -20,9 +18,7 @@ has-em-requires-2 c κs = search needs
 
 returns : tie.Need-returns
 returns c =
-    let a = c .before .before .before .before .args in
     rw (c .before .before .before .is-plain .ensures, c .before .before .is-plain2 .ensures, c .before .has-em .ensures, c .has-em2 .ensures)
-    (touching (kind-of (a .k)) (kind-of (a .l)))
 
 pub touches-spec : {M : Type 1} → statement M
 touches-spec =

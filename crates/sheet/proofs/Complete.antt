@@ -1,46 +1,27 @@
 -- What is in the grammar the reader reads.
-use Prim.Native.Nat.{ℕ, zero, suc, _+_, _-_, _≤_, _<_}
+-- Assumes nothing.
+use Prim.Native.Nat.{ℕ, zero, suc, _+_, _-_, _≤_}
 use native.Mathlib.Omega.{arith}
 use native.Mathlib.Nat.{le-refl}
 use mathlib.Core.Path.{_≡_, refl, sym, _∙_, ap, subst}
-use mathlib.Core.Bool.{Bool, true, false, not, _&&_}
-use mathlib.Core.Logic.{_⊎_, inl, inr, ⊎-elim}
+use mathlib.Core.Bool.{Bool, true, false, not}
 use mathlib.Core.Option.{Option, none, some}
 use mathlib.Core.List.{List, [], _∷_, _++_}
-use borrow.Author.Tests.{eqb-true, eq-eqb, le-leb}
-use lib.Dec.{eqb, leb, ltb}
+use borrow.Author.Tests.{eqb-true, le-leb}
+use lib.Dec.{eqb}
 use lib.ListN.{length, length-append}
-use Rattle.text.specs.Words.{str, _>>=_, case}
+use Rattle.text.specs.Words.{str, _>>=_}
 use Rattle.text.specs.Chars.{is-space, is-control}
 use Rattle.sheet.specs.Reading.{guard, _<|>_, strip, many}
-use Rattle.sheet.specs.Tree.{Kind, plain, strong, em, both, code, Run, run, Mark, ul, ol, Items, Item, alone, with, items, Block, heading, para, list}
+use Rattle.sheet.specs.Tree.{Kind, plain, strong, em, both, code, Run, run, Mark, ul, ol, Items, Item, Block, heading, list}
 use Rattle.sheet.specs.Grammar as G
-use Rattle.sheet.specs.Grammar.{NL, Char, Many, stop, more, Text, IsRun, is-run, Line, ThenNL, IsItem, is-alone, is-with, ListOf, IsList, IsBlock, is-heading, is-para, IsPage, shown, singles, first-is, fits, apart, touch, first-letter, last-no-blank, neat, concat, opens, closes, opens-h, closes-h, before, after}
-use Rattle.sheet.specs.Reader.{Answer, nl?, own, means, char, text, opening, kind, one-run, line, then-nl, with-list, item, some-items, marked, list-of, read-list, digit, headed, read-heading, read-para, block, at-end, read-page}
-use Rattle.sheet.specs.Sound.{none-some, bind-inv, guard-inv, and-inv, alt-inv}
-
-false-true : {A : Type 0} → false ≡ true → A
-false-true e = let z : _≡_ {A = ℕ} 0 1 = cc in absurd (omega arith)
-
-alt-left : {A : Type 0} (o p : Option A) {x : A} → o ≡ some x → (o <|> p) ≡ some x
-alt-left o p e = rw e
-
-alt-right : {A : Type 0} (o p : Option A) → o ≡ none → (o <|> p) ≡ p
-alt-right o p e = rw e
-
-strip-append : (p r : List ℕ) → strip p (p ++ r) ≡ some r
-strip-append [] r = refl
-strip-append (a ∷ p) r = rw (eq-eqb a a refl) (strip-append p r)
-
--- lengths
-
-char-shrinks : {s q r : List ℕ} → Char s q r → length r < length s
-char-shrinks G.&lt = omega arith
-char-shrinks G.&amp = omega arith
-char-shrinks G.&gt = omega arith
-char-shrinks G.&quot = omega arith
-char-shrinks G.blank = omega arith
-char-shrinks (G.own c f) = omega arith
+use Rattle.sheet.specs.Grammar.{NL, Char, Many, stop, more, Text, IsRun, is-run, Line, ThenNL, IsItem, is-alone, is-with, ListOf, IsList, IsBlock, is-heading, is-para, IsPage, shown, singles, first-is, fits, apart, opens, closes, opens-h, closes-h, before, after}
+use Rattle.sheet.specs.Reader.{Answer, nl?, own, char, text, opening, kind, one-run, line, then-nl, item, marked, list-of, read-list, digit, headed, read-heading, read-para, block, read-page}
+use Rattle.sheet.proofs.Facts.{false-true}
+use Rattle.sheet.proofs.Conditions.{neat-of, apart-rest}
+use Rattle.sheet.proofs.ReadingLaws.{alt-left, alt-right, strip-append, front, many-stop, many-more}
+use Rattle.sheet.proofs.Sound.{Listed}
+use Rattle.sheet.proofs.Shrinks.{Less, nl-less, char-less, first-char, run-less, item-less, list-less, block-less}
 
 -- characters
 
@@ -71,41 +52,17 @@ no-tag (G.own {s} c f) p = on (eqb 60 c) refl
     on false g = refl
     on true g = false-true (subst (λ (c : ℕ). shown c ≡ true) (sym (eqb-true 60 c g)) f)
 
--- p again and again
-
-many-stop : {A : Type 0} (p : List ℕ → Answer A) (n : ℕ) (s : List ℕ) → p s ≡ none → many p n s ≡ ([], s)
-unfolding many
-many-stop p zero s e = refl
-many-stop p (suc n) s e = rw e
-
-many-more : {A : Type 0} (p : List ℕ → Answer A) (n : ℕ) {s m r : List ℕ} {x : A} {xs : List A} → p s ≡ some (x, m) → many p n m ≡ (xs, r) → many p (suc n) s ≡ (x ∷ xs, r)
-unfolding many
-many-more p n e f = rw (e, f)
-
 text-chars : {s r : List ℕ} {qs : List (List ℕ)} → Many Char s qs r → char r ≡ none → (n : ℕ) → length s ≤ n → many char n s ≡ (qs, r)
 text-chars (stop {s}) e n h = many-stop char n s e
-text-chars (more c t) e zero h = let l = char-shrinks c in absurd (omega arith)
-text-chars (more c t) e (suc n) h = let l = char-shrinks c in many-more char n (char-complete c) (text-chars t e n (omega arith))
+text-chars (more {s} {m} {x = q} c t) e zero h = absurd (omega (arith, char-less s q m c))
+text-chars (more {s} {m} {x = q} c t) e (suc n) h =
+    many-more char n s (char-complete c) ∙ ap (front q) (text-chars t e n (omega (arith, char-less s q m c)))
 
 text-complete : {s t r : List ℕ} → Text s t r → char r ≡ none → text s ≡ (t, r)
 unfolding text
 text-complete (G.text {s} m) e = rw (text-chars m e (length s) (le-refl (length s)))
 
-chars-shrink : {s r : List ℕ} {qs : List (List ℕ)} → Many Char s qs r → length r ≤ length s
-chars-shrink (stop {s}) = le-refl (length s)
-chars-shrink (more c t) = omega (arith, char-shrinks c, chars-shrink t)
-
 -- runs
-
--- the text of a run is not empty
-first-char : (k : Kind) {s r : List ℕ} {qs : List (List ℕ)} → Many Char s qs r → fits k (concat qs) ≡ true → (q m : List ℕ) × Char s q m × (length r < length s)
-unfolding fits singles first-is
-first-char k (more c t) f = (_, _, c, omega (arith, char-shrinks c, chars-shrink t))
-first-char plain stop f = false-true f
-first-char strong stop f = false-true f
-first-char em stop f = false-true f
-first-char both stop f = false-true f
-first-char code stop f = false-true f
 
 no-open : (k : Kind) (p s : List ℕ) → strip (60 ∷ p) s ≡ none → _>>=_ {B = Kind × List ℕ} (strip (60 ∷ p) s) (λ r. some (k, r)) ≡ none
 no-open k p s h = rw h
@@ -144,9 +101,6 @@ run-complete k {s} {t} {m} (G.text cs) f h =
     let c = first-char k cs f in
     rw (kind-complete k s (no-tag (c .2)), text-complete (G.text cs) (after-text k m h), f, strip-append (after k) m)
 
-run-shrinks : {s r : List ℕ} {x : Run} → IsRun s x r → length r < length s
-run-shrinks (is-run {s} {t} {m} k (G.text cs) f) = omega (arith, first-char k cs f .3, length-append (before k) s, length-append (after k) m)
-
 next : (k : Kind) (t : List ℕ) {m r : List ℕ} {rs : List Run} → Many IsRun m rs r → apart (run k t ∷ rs) ≡ true → char r ≡ none → Follows k m
 unfolding apart char own shown is-control is-space
 next plain u stop a e = e
@@ -160,11 +114,6 @@ next em u rs a e = tt
 next both u rs a e = tt
 next code u rs a e = tt
 
-apart-rest : (x : Run) (rs : List Run) → apart (x ∷ rs) ≡ true → apart rs ≡ true
-unfolding apart
-apart-rest (run k t) [] a = refl
-apart-rest (run k t) (run l u ∷ rs) a = and-inv (not (touch k l)) (apart (run l u ∷ rs)) a .1
-
 -- where a line ends
 record Ends (r : List ℕ) : Type 0 where
   no-char : char r ≡ none
@@ -172,22 +121,14 @@ record Ends (r : List ℕ) : Type 0 where
 
 runs-complete : {s r : List ℕ} {rs : List Run} → Many IsRun s rs r → apart rs ≡ true → Ends r → (n : ℕ) → length s ≤ n → many one-run n s ≡ (rs, r)
 runs-complete (stop {s}) a e n h = many-stop one-run n s (e .no-run)
-runs-complete (more x rs) a e zero h = let l = run-shrinks x in absurd (omega arith)
+runs-complete (more {s} {m} {x = x} h rs) a e zero l = absurd (omega (arith, run-less s x m h))
 runs-complete (more (is-run {s} {t} {m} k T f) rs) a e (suc n) h =
-    let l = run-shrinks (is-run {s = s} {t = t} {m = m} k T f) in
-    many-more one-run n (run-complete k T f (next k t rs a (e .no-char))) (runs-complete rs (apart-rest (run k t) _ a) e n (omega arith))
+    many-more one-run n (before k ++ s) (run-complete k T f (next k t rs a (e .no-char)))
+    ∙ ap (front (run k t)) (runs-complete rs (apart-rest (run k t) _ a) e n (omega (arith, run-less (before k ++ s) (run k t) m (is-run k T f))))
 
 line-complete : {s r : List ℕ} {rs : List Run} → Line s rs r → Ends r → line s ≡ some (rs, r)
-unfolding line neat
-line-complete (G.line {s} {r} {rs} m f) e =
-    rw (runs-complete m (and-inv (apart rs) (first-letter rs) (and-inv (apart rs && first-letter rs) (last-no-blank rs) f .0) .0) e (length s) (le-refl (length s)), f)
-
-runs-shrink : {s r : List ℕ} {rs : List Run} → Many IsRun s rs r → length r ≤ length s
-runs-shrink (stop {s}) = le-refl (length s)
-runs-shrink (more x rs) = omega (arith, run-shrinks x, runs-shrink rs)
-
-line-shrinks : {s r : List ℕ} {rs : List Run} → Line s rs r → length r ≤ length s
-line-shrinks (G.line m f) = runs-shrink m
+unfolding line
+line-complete (G.line {s} {r} {rs} m f) e = rw (runs-complete m (neat-of rs f .parted) e (length s) (le-refl (length s)), f)
 
 -- NL?
 
@@ -195,15 +136,11 @@ nl-complete : {s r : List ℕ} → NL s r → nl? r ≡ r → nl? s ≡ r
 nl-complete G.no-nl e = e
 nl-complete G.nl e = refl
 
-nl-shrinks : {s r : List ℕ} → NL s r → length r ≤ length s
-nl-shrinks (G.no-nl {s}) = le-refl (length s)
-nl-shrinks G.nl = omega arith
-
 -- what a reader has to have, that things one after the other, each followed by NL?, are read
 record Reads {A : Type 0} (R : List ℕ → A → List ℕ → Type 0) (p : List ℕ → Answer A) : Type 0 where
   complete : (s : List ℕ) (x : A) (r : List ℕ) → R s x r → p s ≡ some (x, r)
   no-nl : (s : List ℕ) (x : A) (r : List ℕ) → R s x r → nl? s ≡ s
-  shrinks : (s : List ℕ) (x : A) (r : List ℕ) → R s x r → length r < length s
+  less : Less R
 
 module _ {A : Type 0} (R : List ℕ → A → List ℕ → Type 0) (p : List ℕ → Answer A) (reads : Reads R p) where
   seq-first : {s r : List ℕ} {xs : List A} → Many (ThenNL R) s xs r → nl? r ≡ r → nl? s ≡ s
@@ -212,15 +149,10 @@ module _ {A : Type 0} (R : List ℕ → A → List ℕ → Type 0) (p : List ℕ
 
   seq-complete : {s r : List ℕ} {xs : List A} → Many (ThenNL R) s xs r → nl? r ≡ r → p r ≡ none → (n : ℕ) → length s ≤ n → many (then-nl p) n s ≡ (xs, r)
   seq-complete (stop {s}) e f n l = many-stop (then-nl p) n s (rw f)
-  seq-complete (more (G.then x k) t) e f zero l = let h = reads .shrinks _ _ _ x in absurd (omega arith)
-  seq-complete (more (G.then x k) t) e f (suc n) l =
-      let h = reads .shrinks _ _ _ x in
-      let h' = nl-shrinks k in
-      many-more (then-nl p) n (rw (reads .complete _ _ _ x, nl-complete k (seq-first t e))) (seq-complete t e f n (omega arith))
-
-  seq-shrinks : {s r : List ℕ} {xs : List A} → Many (ThenNL R) s xs r → length r ≤ length s
-  seq-shrinks (stop {s}) = le-refl (length s)
-  seq-shrinks (more (G.then x n) t) = omega (arith, reads .shrinks _ _ _ x, nl-shrinks n, seq-shrinks t)
+  seq-complete (more (G.then x k) t) e f zero l = absurd (omega (arith, reads .less _ _ _ x))
+  seq-complete (more (G.then {s} {x = y} x k) t) e f (suc n) l =
+      many-more (then-nl p) n s (rw (reads .complete _ _ _ x, nl-complete k (seq-first t e)))
+      ∙ ap (front y) (seq-complete t e f n (omega (arith, reads .less _ _ _ x, nl-less k)))
 
 -- lists and items
 
@@ -247,7 +179,7 @@ closing s = record { no-char = refl; no-run = refl }
 record ReadsLists (L : List ℕ → Mark → Items → List ℕ → Type 0) (read : List ℕ → Answer (Mark × Items)) : Type 0 where
   complete : (s : List ℕ) (m : Mark) (its : Items) (r : List ℕ) → L s m its r → read s ≡ some ((m, its), r)
   begins : (s : List ℕ) (m : Mark) (its : Items) (r : List ℕ) → L s m its r → Opens s
-  shrinks : (s : List ℕ) (m : Mark) (its : Items) (r : List ℕ) → L s m its r → length r < length s
+  less : Less (Listed L)
 
 module _ (L : List ℕ → Mark → Items → List ℕ → Type 0) (read : List ℕ → Answer (Mark × Items)) (reads : ReadsLists L read) where
   item-complete : (s : List ℕ) (it : Item) (r : List ℕ) → IsItem L s it r → item read s ≡ some (it, r)
@@ -261,12 +193,8 @@ module _ (L : List ℕ → Mark → Items → List ℕ → Type 0) (read : List 
   item-first s it r (is-alone l) = refl
   item-first s it r (is-with l n q n') = refl
 
-  item-shrinks : (s : List ℕ) (it : Item) (r : List ℕ) → IsItem L s it r → length r < length s
-  item-shrinks s it r (is-alone l) = omega (arith, line-shrinks l)
-  item-shrinks s it r (is-with l n q n') = omega (arith, line-shrinks l, nl-shrinks n, reads .shrinks _ _ _ _ q, nl-shrinks n')
-
   reads-items : Reads (IsItem L) (item read)
-  reads-items = record { complete = item-complete; no-nl = item-first; shrinks = item-shrinks }
+  reads-items = record { complete = item-complete; no-nl = item-first; less = item-less L (reads .less) }
 
   not-item : (m : Mark) (r : List ℕ) → item read (closes m ++ r) ≡ none
   unfolding item
@@ -287,22 +215,18 @@ module _ (I : List ℕ → Item → List ℕ → Type 0) (read : List ℕ → An
   list-complete s _ its r (G.is-list {s = s₀} m n q) =
       let e = closes-first m r in
       let h : length s₀ ≤ length (opens m ++ s₀) = omega (arith, length-append (opens m) s₀) in
-      let z = seq-complete I read reads q e (no-item m r) (length (opens m ++ s₀)) (omega (arith, nl-shrinks n)) in
+      let z = seq-complete I read reads q e (no-item m r) (length (opens m ++ s₀)) (omega (arith, nl-less n)) in
       rw (marked-complete m s₀, nl-complete n (seq-first I read reads q e), z, strip-append (closes m) r)
-
-  list-shrinks : (s : List ℕ) (m : Mark) (its : Items) (r : List ℕ) → ListOf I s m its r → length r < length s
-  list-shrinks s m its r (G.is-list {s = s₀} ul n q) = omega (arith, seq-shrinks I read reads q, nl-shrinks n)
-  list-shrinks s m its r (G.is-list {s = s₀} ol n q) = omega (arith, seq-shrinks I read reads q, nl-shrinks n)
 
   list-begins : (s : List ℕ) (m : Mark) (its : Items) (r : List ℕ) → ListOf I s m its r → Opens s
   list-begins s _ its r (G.is-list {s = s₀} m n q) = opened m s₀
 
   reads-lists : ReadsLists (ListOf I) (list-of read)
-  reads-lists = record { complete = list-complete; begins = list-begins; shrinks = list-shrinks }
+  reads-lists = record { complete = list-complete; begins = list-begins; less = list-less I (reads .less) }
 
 read-list-reads : (d : ℕ) → ReadsLists (IsList d) (read-list d)
 unfolding read-list
-read-list-reads zero = record { complete = λ s m its r h. absurd h; begins = λ s m its r h. absurd h; shrinks = λ s m its r h. absurd h }
+read-list-reads zero = record { complete = λ s m its r h. absurd h; begins = λ s m its r h. absurd h; less = λ s t r h. absurd h }
 read-list-reads (suc d) =
     let i = read-list-reads d in
     reads-lists (IsItem (IsList d)) (item (read-list d)) (reads-items (IsList d) (read-list d) i) (not-item (IsList d) (read-list d) i)
@@ -346,13 +270,8 @@ block-first s b r (G.is-list {m = m} {its = its} h) = by s (read-list-reads 8 .b
     by s (opened ul s₀) = refl
     by s (opened ol s₀) = refl
 
-block-shrinks : (s : List ℕ) (b : Block) (r : List ℕ) → IsBlock s b r → length r < length s
-block-shrinks s b r (is-heading n lo hi h) = omega (arith, line-shrinks h)
-block-shrinks s b r (is-para h) = omega (arith, line-shrinks h)
-block-shrinks s b r (G.is-list {m = m} {its = its} h) = read-list-reads 8 .shrinks s m its r h
-
 reads-blocks : Reads IsBlock block
-reads-blocks = record { complete = block-complete; no-nl = block-first; shrinks = block-shrinks }
+reads-blocks = record { complete = block-complete; no-nl = block-first; less = block-less }
 
 no-block : block [] ≡ none
 unfolding block read-heading read-para read-list list-of
@@ -361,4 +280,4 @@ no-block = refl
 pub page-complete : {s : List ℕ} {t : List Block} → IsPage s t → read-page s ≡ some t
 unfolding read-page
 page-complete (G.page {s} n q) =
-    rw (nl-complete n (seq-first IsBlock block reads-blocks q refl), seq-complete IsBlock block reads-blocks q refl no-block (length s) (nl-shrinks n))
+    rw (nl-complete n (seq-first IsBlock block reads-blocks q refl), seq-complete IsBlock block reads-blocks q refl no-block (length s) (nl-less n))

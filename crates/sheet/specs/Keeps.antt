@@ -2,7 +2,7 @@
 -- Assumes nothing.
 use Prim.Native.Nat.{ℕ, _+_, _*_, _≤_}
 use mathlib.Core.Path.{_≡_}
-use mathlib.Core.Bool.{Bool, true, false, not, _&&_}
+use mathlib.Core.Bool.{Bool, true, not, _&&_}
 use mathlib.Core.Option.{none, some}
 use mathlib.Core.List.{List, [], _∷_}
 use lib.Dec.{eqb}
@@ -10,10 +10,11 @@ use lib.ListN.{length}
 use Rattle.text.specs.Words.{if_then_else_}
 use Rattle.text.specs.Chars.{is-letter}
 use Rattle.html.specs.State.{special}
+use Rattle.records.specs.Format.{non-empty}
 use Rattle.sheet.specs.Reading.{_<|>_}
 use Rattle.sheet.specs.Tree as T
 use Rattle.sheet.specs.Tree.{Run, run}
-use Rattle.sheet.specs.Grammar.{singles, first-is, none-of, any, touch, apart, first-letter, last-no-blank, before}
+use Rattle.sheet.specs.Grammar.{singles, none-of, touch, apart, first-letter, last-no-blank, before}
 use Rattle.sheet.specs.Reader.{Answer, means, kind, text}
 use Rattle.sheet.specs.Written.{escaped, sign, written-runs}
 use Rattle.sheet.specs.Weight.{weight, alike, added}
@@ -50,7 +51,7 @@ last-of (c ∷ d ∷ t) = last-of (d ∷ t)
 -- of a text: the counts of its written form, whether it has a character, its first and its last, whether no two bytes 32 stand together, and
 -- whether none of its characters has to be escaped
 unfoldable pub gist : List ℕ → Gist
-gist t = record { count = weight (escaped t); any = first-is any t; first = first-of t; last = last-of t; single = singles t; calm = none-of special t }
+gist t = record { count = weight (escaped t); any = non-empty t; first = first-of t; last = last-of t; single = singles t; calm = none-of special t }
 
 -- one character more
 abbrev pub pushed : Gist → ℕ → Gist
@@ -70,7 +71,7 @@ pub record Scanned (page : List ℕ) (at : ℕ) (r : Passage) : Type 0 where
   pub later : at ≤ r .next
   pub within : at ≤ length page → r .next ≤ length page
 
--- the code's kinds
+-- the code's kinds and the tree's
 abbrev pub kind-of : Kind → T.Kind
 kind-of Plain = T.plain
 kind-of Strong = T.strong
@@ -84,20 +85,6 @@ coded T.strong = Strong
 coded T.em = Em
 coded T.both = Both
 coded T.code = Code
-
-abbrev pub is-plain : T.Kind → Bool
-is-plain T.plain = true
-is-plain T.strong = false
-is-plain T.em = false
-is-plain T.both = false
-is-plain T.code = false
-
-abbrev pub has-em : T.Kind → Bool
-has-em T.plain = false
-has-em T.strong = false
-has-em T.em = true
-has-em T.both = true
-has-em T.code = false
 
 -- whether a text may stand in a run of a kind
 abbrev pub edged : Gist → Bool
@@ -127,12 +114,8 @@ last-kind [] = T.strong
 last-kind (run k t ∷ []) = k
 last-kind (run k t ∷ r ∷ rs) = last-kind (r ∷ rs)
 
-abbrev pub filled : {A : Type 0} → List A → Bool
-filled [] = false
-filled (x ∷ xs) = true
-
 unfoldable pub runs-of : List Run → Runs
-runs-of rs = record { count = weight (written-runs rs); last = coded (last-kind rs); any = filled rs; apart = apart rs; letter = first-letter rs; solid = last-no-blank rs }
+runs-of rs = record { count = weight (written-runs rs); last = coded (last-kind rs); any = non-empty rs; apart = apart rs; letter = first-letter rs; solid = last-no-blank rs }
 
 -- one run more
 abbrev pub joined-by : Runs → Kind → Gist → Runs

@@ -1,48 +1,25 @@
 -- What the reader reads is in the grammar.
+-- Assumes nothing.
 use Prim.Native.Nat.{ℕ, zero, suc, _+_, _-_, _≤_}
 use native.Mathlib.Omega.{arith}
 use mathlib.Core.Path.{_≡_, refl, sym, _∙_, ap, subst}
-use mathlib.Core.Bool.{Bool, true, false, _&&_}
-use mathlib.Core.Logic.{_⊎_, inl, inr, ⊎-elim}
+use mathlib.Core.Logic.{⊎-elim}
 use mathlib.Core.Option.{Option, none, some}
 use mathlib.Core.List.{List, [], _∷_, _++_}
-use borrow.Author.Tests.{eqb-true, leb-true}
-use lib.Dec.{eqb, leb}
 use lib.ListN.{length}
 use Rattle.text.specs.Words.{str, _>>=_, case}
-use Rattle.sheet.specs.Reading.{guard, _<|>_, strip, many}
-use Rattle.sheet.specs.Tree.{Kind, plain, strong, em, both, code, Run, run, Mark, ul, ol, Items, Item, alone, with, items, Block, heading, para, list}
+use Rattle.sheet.specs.Reading.{_<|>_, strip, many}
+use Rattle.sheet.specs.Tree.{Kind, plain, strong, em, both, code, Run, Mark, ul, ol, Items, Item, alone, items, Block, list}
 use Rattle.sheet.specs.Grammar as G
-use Rattle.sheet.specs.Grammar.{NL, Char, Many, stop, more, Text, IsRun, is-run, Line, ThenNL, IsItem, is-alone, is-with, ListOf, IsList, IsBlock, is-heading, is-para, IsPage, shown, fits, neat, concat, opens, closes, opens-h, closes-h, before, after}
+use Rattle.sheet.specs.Grammar.{NL, Char, Many, stop, more, Text, IsRun, is-run, Line, ThenNL, IsItem, is-alone, is-with, ListOf, IsList, IsBlock, is-heading, is-para, IsPage, shown, fits, neat, opens, closes, closes-h, before, after}
 use Rattle.sheet.specs.Reader.{Answer, nl?, own, means, char, text, opening, kind, one-run, line, then-nl, with-list, item, some-items, marked, list-of, read-list, digit, headed, read-heading, read-para, block, at-end, read-page}
-
-pub none-some : {A B : Type 0} {a : A} → _≡_ {A = Option A} none (some a) → B
-none-some e = let z : _≡_ {A = ℕ} 0 1 = cc in absurd (omega arith)
-
-pub bind-inv : {A B : Type 0} (o : Option A) (f : A → Option B) {y : B} → (o >>= f) ≡ some y → (x : A) × (o ≡ some x) × (f x ≡ some y)
-bind-inv none f e = none-some e
-bind-inv (some x) f e = (x, refl, e)
-
-pub guard-inv : {A : Type 0} (b : Bool) (o : Option A) {y : A} → guard b o ≡ some y → (b ≡ true) × (o ≡ some y)
-guard-inv true o e = (refl, e)
-guard-inv false o e = none-some e
-
-pub and-inv : (a b : Bool) → (a && b) ≡ true → (a ≡ true) × (b ≡ true)
-and-inv true b e = (refl, e)
-and-inv false b e = let z : _≡_ {A = ℕ} 0 1 = cc in absurd (omega arith)
-
-pub alt-inv : {A : Type 0} (o p : Option A) {y : A} → (o <|> p) ≡ some y → (o ≡ some y) ⊎ (p ≡ some y)
-alt-inv none p e = inr e
-alt-inv (some x) p e = inl e
-
-pub strip-inv : (p s : List ℕ) {r : List ℕ} → strip p s ≡ some r → s ≡ p ++ r
-strip-inv [] s e = cc
-strip-inv (a ∷ p) [] e = none-some e
-strip-inv (a ∷ p) (b ∷ s) e = let g = guard-inv (eqb a b) (strip p s) e in cc (eqb-true a b (g .0), strip-inv p s (g .1))
+use Rattle.text.specs.Chars.{within}
+use Rattle.text.proofs.Tests.{within-true}
+use Rattle.sheet.proofs.ReadingLaws.{none-some, bind-inv, guard-inv, alt-inv, strip-inv}
 
 -- a reader that reads what R says
 module _ {A : Type 0} where
-  abbrev Sound : (List ℕ → A → List ℕ → Type 0) → (List ℕ → Answer A) → Type 0
+  abbrev pub Sound : (List ℕ → A → List ℕ → Type 0) → (List ℕ → Answer A) → Type 0
   Sound R p = (s : List ℕ) (y : A × List ℕ) → p s ≡ some y → R s (y .0) (y .1)
 
   -- the last step: the answer is there
@@ -63,7 +40,7 @@ module _ {A : Type 0} where
       go ih none e = stop
       go ih (some x) e = more (h s x e) (ih x)
 
-nl-sound : (s : List ℕ) → NL s (nl? s)
+pub nl-sound : (s : List ℕ) → NL s (nl? s)
 nl-sound s = go (strip (10 ∷ []) s) refl
   where
     go : (o : Option (List ℕ)) → strip (10 ∷ []) s ≡ o → NL s (case o s (λ r. r))
@@ -77,7 +54,7 @@ own-sound (c ∷ s) y e =
     let g = guard-inv (shown c) _ e in
     gives Char (g .1) (G.own c (g .0))
 
-char-sound : Sound Char char
+pub char-sound : Sound Char char
 unfolding char
 char-sound s y e =
     ⊎-elim (own-sound s y) (λ e. ⊎-elim (by " " " " (λ r. G.blank)) (λ e. ⊎-elim (by "<" "&lt;" (λ r. G.&lt)) (λ e. ⊎-elim (by "&" "&amp;" (λ r. G.&amp)) (λ e. ⊎-elim (by ">" "&gt;" (λ r. G.&gt)) (by "\"" "&quot;" (λ r. G.&quot)) (alt-inv (means ">" "&gt;" s) _ e)) (alt-inv (means "&" "&amp;" s) _ e)) (alt-inv (means "<" "&lt;" s) _ e)) (alt-inv (means " " " " s) _ e)) (alt-inv (own s) _ e)
@@ -101,7 +78,7 @@ kind-inv s y e =
         let b = bind-inv (strip (before k) s) _ e in
         gives (λ s k r. s ≡ before k ++ r) (b .2) (strip-inv (before k) s (b .1))
 
-run-sound : Sound IsRun one-run
+pub run-sound : Sound IsRun one-run
 unfolding one-run
 run-sound s y e =
     let k = bind-inv (kind s) _ e in
@@ -116,16 +93,16 @@ line-sound s y e =
     let g = guard-inv (neat (many one-run (length s) s .0)) _ e in
     gives Line (g .1) (G.line (many-sound IsRun one-run run-sound (length s) s) (g .0))
 
-then-nl-sound : {A : Type 0} (R : List ℕ → A → List ℕ → Type 0) (p : List ℕ → Answer A) → Sound R p → Sound (ThenNL R) (then-nl p)
+pub then-nl-sound : {A : Type 0} (R : List ℕ → A → List ℕ → Type 0) (p : List ℕ → Answer A) → Sound R p → Sound (ThenNL R) (then-nl p)
 then-nl-sound R p h s y e =
     let b = bind-inv (p s) _ e in
     gives (ThenNL R) (b .2) (G.then (h s (b .0) (b .1)) (nl-sound (b .0 .1)))
 
 -- the same of a list, which has two parts
-abbrev Listed : (List ℕ → Mark → Items → List ℕ → Type 0) → List ℕ → Mark × Items → List ℕ → Type 0
+abbrev pub Listed : (List ℕ → Mark → Items → List ℕ → Type 0) → List ℕ → Mark × Items → List ℕ → Type 0
 Listed L s t r = L s (t .0) (t .1) r
 
-item-sound : (L : List ℕ → Mark → Items → List ℕ → Type 0) (read : List ℕ → Answer (Mark × Items)) → Sound (Listed L) read → Sound (IsItem L) (item read)
+pub item-sound : (L : List ℕ → Mark → Items → List ℕ → Type 0) (read : List ℕ → Answer (Mark × Items)) → Sound (Listed L) read → Sound (IsItem L) (item read)
 unfolding item
 item-sound L read h s y e =
     let o = bind-inv (strip (str "<li>") s) _ e in
@@ -140,7 +117,7 @@ item-sound L read h s y e =
         let c = bind-inv (strip (str "</li>") (nl? (b .0 .1))) _ (b .2) in
         gives (IsItem L) (c .2) (is-with l (nl-sound (x .1)) (h (nl? (x .1)) (b .0) (b .1)) (subst (NL (b .0 .1)) (strip-inv (str "</li>") (nl? (b .0 .1)) (c .1)) (nl-sound (b .0 .1))))
 
-marked-inv : (s : List ℕ) (y : Mark × List ℕ) → (marked ul s <|> marked ol s) ≡ some y → s ≡ opens (y .0) ++ y .1
+pub marked-inv : (s : List ℕ) (y : Mark × List ℕ) → (marked ul s <|> marked ol s) ≡ some y → s ≡ opens (y .0) ++ y .1
 marked-inv s y e = ⊎-elim (by ul) (by ol) (alt-inv (marked ul s) _ e)
   where
     by : (m : Mark) → marked m s ≡ some y → s ≡ opens (y .0) ++ y .1
@@ -163,7 +140,7 @@ list-sound I read h s y e =
     go m s r [] t e q = none-some e
     go m s r (it ∷ its) t e q = let z : items (it ∷ its) ≡ t = cc in subst (λ (t : Items). ListOf I (opens m ++ s) m t r) z (G.is-list m (nl-sound s) q)
 
-read-list-sound : (d : ℕ) → Sound (Listed (IsList d)) (read-list d)
+pub read-list-sound : (d : ℕ) → Sound (Listed (IsList d)) (read-list d)
 unfolding read-list
 read-list-sound zero s y e = none-some e
 read-list-sound (suc d) s y e = list-sound (IsItem (IsList d)) (item (read-list d)) (item-sound (IsList d) (read-list d) (read-list-sound d)) s y e
@@ -185,14 +162,12 @@ heading-sound s y e =
     digit-inv : (s : List ℕ) (y : ℕ × List ℕ) → digit s ≡ some y → (1 ≤ y .0) × (y .0 ≤ 6) × (s ≡ (48 + y .0) ∷ y .1)
     digit-inv [] y e = none-some e
     digit-inv (b ∷ s) y e =
-        let g = guard-inv (leb 49 b && leb b 54) _ e in
-        let h = and-inv (leb 49 b) (leb b 54) (g .0) in
-        let l = leb-true 49 b (h .0) in
-        let u = leb-true b 54 (h .1) in
+        let g = guard-inv (within 49 54 b) _ e in
+        let h = within-true 49 54 b (g .0) in
         let z : (b - 48, s) ≡ y = cc (g .1) in
         let z₀ = ap (λ (y : ℕ × List ℕ). y .0) z in
-        let w : b ≡ 48 + y .0 = omega arith in
-        (omega arith, omega arith, cc (ap (λ (y : ℕ × List ℕ). y .1) z))
+        let w : b ≡ 48 + y .0 = omega (arith, h .0) in
+        (omega (arith, h .0), omega (arith, h .1), cc (ap (λ (y : ℕ × List ℕ). y .1) z))
 
 para-sound : Sound IsBlock read-para
 unfolding read-para
@@ -204,7 +179,7 @@ para-sound s y e =
     (from IsBlock (strip-inv (str "<p>") s (o .1))
     (is-para (subst (Line (o .0) (l .0 .0)) (strip-inv (str "</p>") (l .0 .1) (c .1)) (line-sound (o .0) (l .0) (l .1)))))
 
-block-sound : Sound IsBlock block
+pub block-sound : Sound IsBlock block
 unfolding block
 block-sound s y e =
     ⊎-elim (heading-sound s y) (λ e. ⊎-elim (para-sound s y) by-list (alt-inv (read-para s) _ e)) (alt-inv (read-heading s) _ e)
