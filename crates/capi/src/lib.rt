@@ -1,13 +1,13 @@
 // The calls for C: numbers, and slices as a pointer and a length. include/release_notes.h says the same for a C programmer.
 ghost use mathlib.Core.Path.{_≡_};
-ghost use Rattle.text.specs.Utf8.{encode};
-ghost use Rattle.records.specs.Answers.{block-answer, marker-answer, span-answer, text-answer};
+ghost use Rattle.records.specs.Answers.{block-answer, span-answer};
+ghost use Rattle.records.specs.Places.{marker-place, text-place};
 ghost use lib.ListN.{length};
 ghost use Rattle.html.specs.Calls.{html-to-markdown-call};
 ghost use Rattle.text.specs.Outcome.{result-after, work-kept};
 ghost use Rattle.markdown.specs.Calls.{blocks-call};
 ghost use Rattle.sheet.specs.Calls.{sheet-call};
-ghost use Rattle.capi.specs.Values.{bit, page-struct, markdown-struct, written-struct, block-struct, span-struct, sheet-struct, PartIs};
+ghost use Rattle.capi.specs.Values.{bit, page-struct, markdown-struct, written-struct, block-struct, span-struct, part-struct, sheet-struct};
 use records::walker::BlockAnswer;
 use records::walker::SpanAnswer;
 use sheet::Verdict;
@@ -216,7 +216,7 @@ pub extern "C" fn rn_span_at(records: &[u8], at: usize, n: usize) -> SpanAt
 
 #[no_mangle]
 pub extern "C" fn rn_marker_at(records: &[u8], at: usize) -> Part
-    ensures { λ r. ⌜ PartIs (now (records .entry)) (encode (marker-answer (now (records .entry)) at)) r ⌝ }
+    ensures { λ r. ⌜ r ≡ part-struct (marker-place (now (records .entry)) at) ⌝ }
 {
     let range = records::walker::marker_range(records, at);
     Part {
@@ -227,7 +227,7 @@ pub extern "C" fn rn_marker_at(records: &[u8], at: usize) -> Part
 
 #[no_mangle]
 pub extern "C" fn rn_text_at(records: &[u8], at: usize, n: usize) -> Part
-    ensures { λ r. ⌜ PartIs (now (records .entry)) (encode (text-answer (now (records .entry)) at n)) r ⌝ }
+    ensures { λ r. ⌜ r ≡ part-struct (text-place (now (records .entry)) at n) ⌝ }
 {
     let range = records::walker::text_range(records, at, n);
     Part {

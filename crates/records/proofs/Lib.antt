@@ -4,11 +4,13 @@ pub mod Markers
 pub mod Encoded
 pub mod EncodedBytes
 pub mod Decoded
+pub mod Placed
 pub mod RoundTrip
 pub mod Spans
 pub mod Heads
 pub mod Blocks
 pub mod WalkerLaws
+pub mod PlaceLaws
 pub mod NumberLaws
 pub mod Walked
 pub mod FormatLaws

@@ -4,7 +4,8 @@ ghost use mathlib.Core.Path.{_≡_};
 ghost use Rattle.text.specs.Utf8.{encode};
 ghost use Rattle.records.specs.Answers.{block-answer, marker-answer, span-answer, text-answer};
 ghost use Rattle.records.specs.Numbers.{block-values, span-values};
-ghost use Rattle.records.specs.Readers.{NthIs, RangeIs};
+ghost use Rattle.records.specs.Places.{marker-place, text-place};
+ghost use Rattle.records.specs.Readers.{NthIs};
 use crate::reader::Kind;
 use crate::reader::SpanRead;
 use crate::reader::SpansEnd;
@@ -67,7 +68,7 @@ pub struct Range {
 
 // Where the marker of the item at an offset stands; empty where there is none.
 pub fn marker_range(records: &[u8], at: usize) -> Range
-    ensures { λ r. ⌜ RangeIs (now (records .entry)) (encode (marker-answer (now (records .entry)) at)) r ⌝ }
+    ensures { λ r. ⌜ r ≡ marker-place (now (records .entry)) at ⌝ }
 {
     let Whole::At {
         kind,
@@ -181,7 +182,7 @@ pub fn span_at(records: &[u8], at: usize, n: usize) -> SpanAnswer
 
 // Where the text of a span stands; empty where there is none.
 pub fn text_range(records: &[u8], at: usize, n: usize) -> Range
-    ensures { λ r. ⌜ RangeIs (now (records .entry)) (encode (text-answer (now (records .entry)) at n)) r ⌝ }
+    ensures { λ r. ⌜ r ≡ text-place (now (records .entry)) at n ⌝ }
 {
     let Nth::At {
         bold: _,
