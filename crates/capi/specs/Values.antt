@@ -15,6 +15,8 @@ use Rattle.sheet.specs.Calls.{no-utf8, no-sheet, yes-sheet}
 use Rattle.capi.specs.declared.Written.{Written}
 use Rattle.capi.specs.declared.BlockAt.{BlockAt}
 use Rattle.capi.specs.declared.SpanAt.{SpanAt}
+use Rattle.capi.specs.declared.FirstAt.{FirstAt}
+use Rattle.capi.specs.declared.HereAt.{HereAt}
 use Rattle.capi.specs.declared.Part.{Part}
 use Rattle.capi.specs.declared.Tested.{Tested}
 
@@ -51,6 +53,17 @@ abbrev pub span-struct : Answer Emphasis → SpanAt
 span-struct at-end = record { number = 0; kind = 0; bold = 0; italic = 0; code = 0 }
 span-struct (refused n) = record { number = n; kind = 0; bold = 0; italic = 0; code = 0 }
 span-struct (gives e) = record { number = 0; kind = 1; bold = bit (e .bold); italic = bit (e .italic); code = bit (e .code) }
+
+abbrev pub first-struct : Answer ℕ → FirstAt
+first-struct at-end = record { number = 0; at = 0 }
+first-struct (refused n) = record { number = n; at = 0 }
+first-struct (gives at) = record { number = 0; at = at }
+
+abbrev pub here-struct : Answer (Emphasis × Range) → HereAt
+here-struct at-end = record { number = 0; bold = 0; italic = 0; code = 0; start = 0; length = 0 }
+here-struct (refused n) = record { number = n; bold = 0; italic = 0; code = 0; start = 0; length = 0 }
+here-struct (gives v) =
+    record { number = 0; bold = bit (v .0 .bold); italic = bit (v .0 .italic); code = bit (v .0 .code); start = v .1 .start; length = v .1 .end - v .1 .start }
 
 -- a part by its length
 abbrev pub part-struct : Range → Part

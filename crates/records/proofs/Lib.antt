@@ -13,7 +13,6 @@ pub mod WalkerLaws
 pub mod PlaceLaws
 pub mod NumberLaws
 pub mod Walked
-pub mod FormatLaws
 pub mod Stores
 pub mod Held
 pub mod Examples

@@ -1,20 +1,20 @@
 -- The places of the definitions hold the texts: what stands at `marker-place` and `text-place` are the bytes of the marker and of the span's text.
 -- Assumes nothing.
-use Prim.Native.Nat.{ℕ, suc, _+_, _-_, _%_, _<_, _≤_, zero-le}
+use Prim.Native.Nat.{ℕ, zero, suc, _+_, _-_, _%_, _<_, _≤_, zero-le}
 use native.Mathlib.Omega.{arith}
 use mathlib.Core.Path.{_≡_, refl, sym, ap, subst, _∙_}
 use mathlib.Core.Bool.{Bool, true, false, cond}
 use mathlib.Core.List.{List, [], _∷_}
-use lib.ListN.{length, take, drop, length-drop, drop-of-length-le}
+use lib.ListN.{length, take, drop, length-append, length-drop, drop-of-length-le}
 use lib.Dec.{leb, ltb, eqb}
 use borrow.Author.Tests.{leb-true, leb-false, ltb-true, ltb-false}
 use Rattle.text.specs.Utf8.{encode, size}
 use Rattle.text.proofs.Tests.{on}
 use Rattle.records.specs.Blocks.{Span, Kind, heading, paragraph, item, Block}
-use Rattle.records.specs.Format.{encode-spans, bit}
+use Rattle.records.specs.Format.{encode-span, encode-spans, bit}
 use Rattle.records.specs.Decode.{Parse, failed, parsed, span-at, spans-at, kind-at, count-at, Head, head-at, block-at}
-use Rattle.records.specs.Answers.{Answer, at-end, refused, gives, placed, found-at, marker-of, text-or-none, marker-answer, nth, nth-of, span-in, text-answer}
-use Rattle.records.specs.Places.{nowhere, range-or-none, marker-from, marker-range, marker-place, text-range, nth-range, text-place}
+use Rattle.records.specs.Answers.{Answer, at-end, refused, gives, map, Emphasis, placed, found-at, marker-of, text-or-none, marker-answer, emphasis-of, nth, nth-of, span-in, text-answer}
+use Rattle.records.specs.Places.{nowhere, range-or-none, marker-from, marker-range, marker-place, span-from, text-range, nth-range, text-place, here-answer}
 use Rattle.records.specs.Readers.{between, Within}
 use Rattle.records.specs.declared.walker.Range.{Range}
 use Rattle.records.proofs.Decoded.{not-failed, only-inv, then-inv}
@@ -155,3 +155,60 @@ module _ (s : List ℕ) (at : ℕ) where
     pub text-holds : {r : Range} → r ≡ text-place s at n → Holds s r (text-answer s at n)
     unfolding text-place text-answer span-in
     text-holds e = rw e (text-of-found (found-at s at) refl)
+
+-- the bytes of the spans from n on, where span n is x
+from-nth : (xs : List Span) (n : ℕ) {x : Span} → nth xs n ≡ gives x
+    → length (encode-spans (drop n xs)) ≡ length (encode-span x) + length (encode-spans (drop (suc n) xs))
+unfolding encode-spans
+from-nth [] n e = let z : _≡_ {A = ℕ} 0 1 = cc in absurd (omega arith)
+from-nth (y ∷ xs) zero {x} e =
+    let p : y ≡ x = cc in
+    length-append (encode-span y) (encode-spans xs) ∙ ap (λ (x : Span). length (encode-span x) + length (encode-spans xs)) p
+from-nth (y ∷ xs) (suc n) e = from-nth xs n e
+
+nth-under : (xs : List Span) (n : ℕ) {x : Span} → nth xs n ≡ gives x → n < length xs
+nth-under xs n {x} e = under (ltb n (length xs)) refl
+  where
+    under : (t : Bool) → ltb n (length xs) ≡ t → n < length xs
+    under true t = ltb-true n (length xs) t
+    under false t =
+        let h : nth xs n ≡ at-end = nth-over xs n (ltb-false n (length xs) t) in
+        let z : _≡_ {A = ℕ} 0 1 = cc in
+        absurd (omega arith)
+
+-- a span that stands at k, with j bytes behind it up to the offset next
+here-read : {k j : ℕ} {s from to q : List ℕ} {x : Span} (next : ℕ) → next ≡ length s - length q → After k s from → span-at from ≡ parsed x to → After j to q
+    → (m : ℕ) → m ≡ length (encode-span x) + j → here-answer s (next - m) ≡ gives (emphasis-of x, text-range (next - j) (x .text))
+unfolding here-answer
+here-read {k} {j} {s} {from} {to} {q} {x} next e b p a m f =
+    let l₁ = after-length b in
+    let l₂ = after-length (span-ends from p .after) in
+    let l₃ = after-length a in
+    let n : next - m ≡ k = omega arith in
+    let o : length s - length to ≡ next - j = omega arith in
+    rw (n, ← b .left, p, o)
+
+-- Going through the spans in turn gives those of the block: at the offset of span n stands span n, and its text ends at the offset of the next.
+-- The first offset is `first-answer`'s by definition.
+pub listed : (s : List ℕ) (at : ℕ) {f : Block × ℕ} → found-at s at ≡ gives f → (n : ℕ) {x : Span} → nth (f .0 .spans) n ≡ gives x
+    → here-answer s (span-from (f .0 .spans) (f .1) n) ≡ gives (emphasis-of x, text-range (span-from (f .0 .spans) (f .1) (suc n)) (x .text))
+listed s at {f} h n {x} e =
+    let a = found-inv s at h in
+    let o = a .is in
+    let l : n < o .count = rw (spans-count (o .count) (o .first) (o .spans)) at (nth-under (f .0 .spans) n e) in
+    let z = split (o .count) (o .first) (o .spans) n l in
+    let p : z .x ≡ x = cc (z .is) in
+    here-read (f .1) (a .next) (then-after (a .inside) (then-after (o .before) (z .before))) (z .read ∙ ap (λ (x : Span). parsed x (z .to)) p) (z .behind)
+    (length (encode-spans (drop n (f .0 .spans)))) (from-nth (f .0 .spans) n e)
+
+-- a span by its own offset: its text does not end before it starts
+pub here-ordered : (s : List ℕ) (at : ℕ) {e : Emphasis} {r : Range} → gives (e, r) ≡ here-answer s at → r .start ≤ r .end
+unfolding here-answer
+here-ordered s at {e} {r} h = ordered (span-at (drop at s)) h
+  where
+    ordered : (p : Parse Span) → _≡_ {A = Answer (Emphasis × Range)} (gives (e, r)) (map (λ f. (emphasis-of (f .0), text-range (f .1) (f .0 .text))) (placed (length s) p)) → r .start ≤ r .end
+    ordered failed h = let z : _≡_ {A = ℕ} 0 1 = cc in absurd (omega arith)
+    ordered (parsed x q) h =
+        let p : _≡_ {A = Emphasis × Range} (e, r) (emphasis-of x, text-range (length s - length q) (x .text)) = cc in
+        let o : r ≡ text-range (length s - length q) (x .text) = ap (λ (g : Emphasis × Range). g .1) p in
+        rw o (omega arith)

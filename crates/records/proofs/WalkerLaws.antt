@@ -17,7 +17,7 @@ use Rattle.records.specs.Blocks.{Span, Kind, Block}
 use Rattle.records.specs.Format.{encode-span, encode-spans}
 use Rattle.records.specs.Decode.{failed, parsed, span-at, spans-at, head-at, block-at}
 use Rattle.records.specs.Answers.{Answer, at-end, refused, gives, map, level-of, depth-of, emphasis-of, found-at, block-answer, nth, span-in, span-answer}
-use Rattle.records.specs.Places.{nowhere, range-or-none, marker-from, marker-range, marker-place, span-from, text-range, text-place}
+use Rattle.records.specs.Places.{nowhere, range-or-none, marker-from, marker-range, marker-place, span-from, text-range, text-place, first-answer, here-answer}
 use Rattle.records.specs.Readers.{between, Within, SpanIs, span-parse, span-placed, rest, EndIs, end-parse, kind-of, kind-placed, Found, NthIs, nth-asked, nth-at}
 use Rattle.records.specs.declared.reader.Kind as K
 use Rattle.records.specs.declared.reader.Kind.the-variants as KV
@@ -48,6 +48,10 @@ text-range-is s {start} {end} {e} w q =
     let n : size (chars (between s start end)) ≡ end - start = between-size s start end w in
     let l : start ≤ end = w .0 in
     two-ends (omega arith) q
+
+-- what a span's bytes leave up to the next block
+ends-before : (s : List ℕ) {j end next : ℕ} → end ≤ length s → next ≤ length s → After j (drop end s) (drop next s) → next - j ≡ end
+ends-before s {j} {end} {next} h k a = omega (arith, after-length a, length-drop end s, length-drop next s)
 
 -- the block at an offset
 module _ (s : List ℕ) (at : ℕ) where
@@ -96,6 +100,36 @@ module _ (s : List ℕ) (at : ℕ) where
         let l : start ≤ end = w .0 in
         let q : end ≡ at + marker-from d + size (chars (between s start end)) = omega arith in
         two-ends p q ∙ range-case e
+
+    -- its first span stands where the reader found it
+    pub first-is : gives first ≡ first-answer s at
+    unfolding first-answer
+    first-is =
+        let e : next - length (encode-spans (f .xs)) ≡ first = ends-before s (f .starts) (f .within) (spans-after n (drop first s) (f .spans)) in
+        rw (found-is, e)
+
+  pub first-end : at ≡ length s → at-end ≡ first-answer s at
+  unfolding first-answer
+  first-end h = rw (found-end h)
+
+  pub first-bad : (at ≡ length s → ⊥) → block-at (drop at s) ≡ failed → refused 7 ≡ first-answer s at
+  unfolding first-answer
+  first-bad h e = rw (found-none h e)
+
+  -- a span by its own offset
+  module _ {r : SpanRead} (w : SpanIs (span-at (drop at s)) s r) where
+    pub here-bad : r ≡ S.Bad → refused 7 ≡ here-answer s at
+    unfolding here-answer
+    here-bad e = rw (w .read, e)
+
+    pub here-is : {b i c : Bool} {start end : ℕ} → r ≡ S.At b i c start end
+        → gives (record { bold = b; italic = i; code = c }, record { start = start; end = end }) ≡ here-answer s at
+    unfolding here-answer
+    here-is {start = start} {end = end} e =
+        let p : Within s start end = subst (span-placed s) e (w .placed) in
+        let l : end ≤ length s = p .1 in
+        let n : length s - length (drop end s) ≡ end = omega (arith, length-drop end s) in
+        rw (w .read, e, text-range-is s p n)
 
   pub block-end : at ≡ length s → at-end ≡ block-answer s at
   unfolding block-answer
@@ -160,10 +194,6 @@ pub nth-over : (xs : List Span) (n : ℕ) → length xs ≤ n → nth xs n ≡ a
 nth-over [] n l = refl
 nth-over (x ∷ xs) zero l = absurd (omega arith)
 nth-over (x ∷ xs) (suc n) l = nth-over xs n (omega arith)
-
--- what a span's bytes leave up to the next block
-ends-before : (s : List ℕ) {j end next : ℕ} → end ≤ length s → next ≤ length s → After j (drop end s) (drop next s) → next - j ≡ end
-ends-before s {j} {end} {next} h k a = omega (arith, after-length a, length-drop end s, length-drop next s)
 
 module _ (s : List ℕ) (at n : ℕ) where
   pub nth-end : at ≡ length s → NthIs s at n N.End

@@ -6,7 +6,8 @@ use lib.ListN.{length, drop}
 use Rattle.text.specs.Utf8.{size}
 use Rattle.records.specs.Blocks.{Span, Kind, heading, paragraph, item, Block}
 use Rattle.records.specs.Format.{encode-spans}
-use Rattle.records.specs.Answers.{Answer, at-end, refused, gives, found-at, nth}
+use Rattle.records.specs.Decode.{span-at}
+use Rattle.records.specs.Answers.{Answer, at-end, refused, gives, map, Emphasis, emphasis-of, placed, found-at, nth}
 use Rattle.records.specs.declared.walker.Range.{Range}
 
 -- where there is no text
@@ -45,3 +46,11 @@ nth-range n f = range-or-none (λ x. text-range (span-from (f .0 .spans) (f .1) 
 
 unfoldable pub text-place : List ℕ → ℕ → ℕ → Range
 text-place s at n = range-or-none (nth-range n) (found-at s at)
+
+-- going through the spans of a block in turn: where the first one stands, or the end of a block without spans
+unfoldable pub first-answer : List ℕ → ℕ → Answer ℕ
+first-answer s at = map (λ f. span-from (f .0 .spans) (f .1) 0) (found-at s at)
+
+-- and a span by its own offset: its emphasis and where its text stands; the next span starts where the text ends
+unfoldable pub here-answer : List ℕ → ℕ → Answer (Emphasis × Range)
+here-answer s at = map (λ f. (emphasis-of (f .0), text-range (f .1) (f .0 .text))) (placed (length s) (span-at (drop at s)))
