@@ -105,14 +105,20 @@ static void put_part(const uint8_t *records, rn_part part)
 static void list_spans(const uint8_t *records, size_t length, size_t at, size_t count)
 {
     size_t n;
+    rn_first first = rn_first_at(records, length, at);
+    size_t span_at = first.at;
+    if (first.number != RN_OK)
+        refuse("rn_first_at", first.number);
     for (n = 0; n < count; n++) {
-        rn_span span = rn_span_at(records, length, at, n);
+        rn_here span = rn_here_at(records, length, span_at);
+        rn_part text = {span.start, span.length};
         if (span.number != RN_OK)
-            refuse("rn_span_at", span.number);
+            refuse("rn_here_at", span.number);
         printf(" %s%s%s%s \"", span.bold ? " bold" : "", span.italic ? " italic" : "", span.code ? " code" : "",
                span.bold || span.italic || span.code ? "" : " plain");
-        put_part(records, rn_text_at(records, length, at, n));
+        put_part(records, text);
         printf("\"\n");
+        span_at = span.start + span.length;
     }
 }
 

@@ -89,15 +89,21 @@ mod raw {
         pub next: usize,
     }
     #[repr(C)]
-    pub struct SpanAt {
+    pub struct Part {
+        pub start: usize,
+        pub length: usize,
+    }
+    #[repr(C)]
+    pub struct FirstAt {
         pub number: u32,
-        pub kind: u32,
+        pub at: usize,
+    }
+    #[repr(C)]
+    pub struct HereAt {
+        pub number: u32,
         pub bold: u32,
         pub italic: u32,
         pub code: u32,
-    }
-    #[repr(C)]
-    pub struct Part {
         pub start: usize,
         pub length: usize,
     }
@@ -106,9 +112,9 @@ mod raw {
         pub fn rn_blocks(markdown: *const u8, markdown_len: usize, work: *mut u8, work_len: usize, result: *mut u8, result_len: usize) -> Written;
         pub fn rn_sheet(page: *const u8, page_len: usize) -> Tested;
         pub fn rn_block_at(records: *const u8, records_len: usize, at: usize) -> BlockAt;
-        pub fn rn_span_at(records: *const u8, records_len: usize, at: usize, n: usize) -> SpanAt;
         pub fn rn_marker_at(records: *const u8, records_len: usize, at: usize) -> Part;
-        pub fn rn_text_at(records: *const u8, records_len: usize, at: usize, n: usize) -> Part;
+        pub fn rn_first_at(records: *const u8, records_len: usize, at: usize) -> FirstAt;
+        pub fn rn_here_at(records: *const u8, records_len: usize, span_at: usize) -> HereAt;
     }
 }
 
@@ -187,9 +193,11 @@ pub struct Block<'a> {
 }
 
 impl<'a> Block<'a> {
-    /// The block's spans. Each is sought from the block's start, so all of them take time by the square of their number.
+    /// The block's spans, one after the other.
     pub fn spans(&self) -> Spans<'a> {
-        Spans { records: self.records, at: self.at, left: 0..self.count }
+        // SAFETY: the pointer goes with the length of its slice.
+        let first = unsafe { raw::rn_first_at(self.records.as_ptr(), self.records.len(), self.at) };
+        Spans { records: self.records, at: first.at, left: self.count }
     }
 }
 
@@ -233,24 +241,24 @@ impl<'a> Iterator for Blocks<'a> {
 pub struct Spans<'a> {
     records: &'a [u8],
     at: usize,
-    left: std::ops::Range<usize>,
+    left: usize,
 }
 
 impl<'a> Iterator for Spans<'a> {
     type Item = Span<'a>;
 
     fn next(&mut self) -> Option<Span<'a>> {
-        let (records, at, n) = (self.records, self.at, self.left.next()?);
+        self.left = self.left.checked_sub(1)?;
+        let records = self.records;
         // SAFETY: the pointer goes with the length of its slice.
-        let (span, text) = unsafe {
-            let span = raw::rn_span_at(records.as_ptr(), records.len(), at, n);
-            (span, raw::rn_text_at(records.as_ptr(), records.len(), at, n))
-        };
-        Some(Span { text: part(records, text), bold: span.bold == 1, italic: span.italic == 1, code: span.code == 1 })
+        let span = unsafe { raw::rn_here_at(records.as_ptr(), records.len(), self.at) };
+        self.at = span.start + span.length;
+        let text = part(records, raw::Part { start: span.start, length: span.length });
+        Some(Span { text, bold: span.bold == 1, italic: span.italic == 1, code: span.code == 1 })
     }
 
     fn size_hint(&self) -> (usize, Option<usize>) {
-        self.left.size_hint()
+        (self.left, Some(self.left))
     }
 }
 

@@ -127,11 +127,12 @@ rn_tested rn_sheet(const uint8_t *page, size_t page_length);
 
 /*
  * The walker. `records` and `records_length` are what rn_blocks wrote and the length that it answered. Other bytes do no harm: each
- * call checks the block that it is asked about, and answers 7 (rn_block_at, rn_span_at) or an empty part where none stands.
+ * call checks the block or span that it is asked about, and answers 7 (those with a `number`) or an empty part where none stands.
  * `at` is the offset of a block: 0 for the first one, then `next` of the block before.
  *
- * Each call reads its block from the start, so going through all spans of one block takes time that grows with the square of their
- * number: 1,000 spans took 14 ms in one measurement, 4,000 took 0.2 s, 32,000 some 15 s.
+ * Each call with a span number n reads its block from the start, so going through all spans of one block by number takes time that
+ * grows with the square of their number: 1,000 spans took 14 ms in one measurement, 4,000 took 0.2 s, 32,000 some 15 s. To go through
+ * all of them use rn_first_at once and rn_here_at for each, which together take time in proportion to the block's bytes.
  */
 
 /* The member `kind` of rn_block. */
@@ -187,6 +188,7 @@ rn_span rn_span_at(const uint8_t *records, size_t records_length, size_t at, siz
 
 /*
  * A part of the records: `length` bytes of UTF-8 from records + start, always inside the records. It is valid as long as they are.
+ * An empty part has start 0, but that of a span without text, which has the offset after the span.
  */
 typedef struct rn_part {
     size_t start;
@@ -198,6 +200,36 @@ rn_part rn_marker_at(const uint8_t *records, size_t records_length, size_t at);
 
 /* The text of span n of the block at `at`. Empty where there is no such span; of the spans, only one with `code` can be empty. */
 rn_part rn_text_at(const uint8_t *records, size_t records_length, size_t at, size_t n);
+
+/*
+ * Where the first span of the block at `at` stands.
+ *   number  RN_OK or RN_NO_BLOCK
+ *   at      the offset of the first span, or of the next block where this one has no spans; 0 where `at` is the records' length
+ */
+typedef struct rn_first {
+    uint32_t number;
+    size_t at;
+} rn_first;
+
+rn_first rn_first_at(const uint8_t *records, size_t records_length, size_t at);
+
+/*
+ * A span by its own offset: that of rn_first_at, and then start + length of the span before. Only `count` of rn_block says how many
+ * spans a block has; behind the last one stands the next block.
+ *   number              RN_OK or RN_NO_BLOCK: no well-formed span stands there
+ *   bold, italic, code  1 or 0 each, in any combination
+ *   start, length       the text, a part of the records
+ */
+typedef struct rn_here {
+    uint32_t number;
+    uint32_t bold;
+    uint32_t italic;
+    uint32_t code;
+    size_t start;
+    size_t length;
+} rn_here;
+
+rn_here rn_here_at(const uint8_t *records, size_t records_length, size_t span_at);
 
 #ifdef __cplusplus
 }

@@ -1,6 +1,6 @@
 //! One input to both sides. Each function answers whether they agree; both buffers are filled with a pattern first, so that "unchanged" is seen.
 use crate::oracle::{self, Block, Span};
-use crate::port::{self, BlockAt, SpanAt, Tested, Written, END, HEADING, ITEM, PARAGRAPH};
+use crate::port::{self, BlockAt, HereAt, SpanAt, Tested, Written, END, HEADING, ITEM, PARAGRAPH};
 use crate::random::Random;
 
 const FILL: u8 = 0xA5;
@@ -77,6 +77,19 @@ fn ends_at(records: &[u8], at: usize, n: usize) -> bool {
     port::span_at(records, at, n) == SpanAt { number: 0, kind: END, bold: 0, italic: 0, code: 0 } && port::text_at(records, at, n).is_empty()
 }
 
+/// The spans in turn, each by its own offset, up to the next block.
+fn in_turn(records: &[u8], at: usize, spans: &[Span], next: usize) -> bool {
+    let first = port::first_at(records, at);
+    let mut span_at = first.at;
+    let same = spans.iter().all(|span| {
+        let here = port::here_at(records, span_at);
+        span_at = here.start + here.length;
+        let expected = HereAt { number: 0, bold: span.bold as u32, italic: span.italic as u32, code: span.code as u32, start: here.start, length: span.text.len() };
+        here == expected && records[here.start..span_at] == *span.text.as_bytes()
+    });
+    first.number == 0 && same && span_at == next
+}
+
 /// The block at an offset; answers the next offset.
 fn block_is(records: &[u8], at: usize, block: &Block) -> Option<usize> {
     let (kind, level, depth, marker, spans) = match block {
@@ -87,7 +100,7 @@ fn block_is(records: &[u8], at: usize, block: &Block) -> Option<usize> {
     let found = port::block_at(records, at);
     let same = found == BlockAt { number: 0, kind, level, depth, count: spans.len(), next: found.next } && port::marker_at(records, at) == marker.as_bytes();
     let spans_same = spans.iter().enumerate().all(|(n, span)| span_is(records, at, n, span));
-    (same && spans_same && ends_at(records, at, spans.len()) && found.next > at).then_some(found.next)
+    (same && spans_same && in_turn(records, at, spans, found.next) && ends_at(records, at, spans.len()) && found.next > at).then_some(found.next)
 }
 
 /// The records of a Markdown text, walked from the start: each block in order, then the end.
@@ -109,7 +122,7 @@ pub fn damaged_records(records: &[u8]) -> bool {
         let found = port::block_at(records, at);
         match crate::records::block(records, at) {
             Some((block, next)) => block_is(records, at, &block) == Some(next),
-            None => found.number == 7 && port::marker_at(records, at).is_empty() && port::text_at(records, at, 0).is_empty() && port::span_at(records, at, 0).number == 7,
+            None => found.number == 7 && port::marker_at(records, at).is_empty() && port::text_at(records, at, 0).is_empty() && port::span_at(records, at, 0).number == 7 && port::first_at(records, at).number == 7,
         }
     })
 }

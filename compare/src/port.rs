@@ -38,6 +38,22 @@ pub struct Part {
     pub start: usize,
     pub length: usize,
 }
+#[repr(C)]
+#[derive(Debug, PartialEq)]
+pub struct FirstAt {
+    pub number: u32,
+    pub at: usize,
+}
+#[repr(C)]
+#[derive(Debug, PartialEq)]
+pub struct HereAt {
+    pub number: u32,
+    pub bold: u32,
+    pub italic: u32,
+    pub code: u32,
+    pub start: usize,
+    pub length: usize,
+}
 pub const END: u32 = 0;
 pub const HEADING: u32 = 1;
 pub const PARAGRAPH: u32 = 2;
@@ -53,6 +69,8 @@ mod raw {
         pub fn rn_span_at(records: *const u8, len: usize, at: usize, n: usize) -> SpanAt;
         pub fn rn_marker_at(records: *const u8, len: usize, at: usize) -> Part;
         pub fn rn_text_at(records: *const u8, len: usize, at: usize, n: usize) -> Part;
+        pub fn rn_first_at(records: *const u8, len: usize, at: usize) -> FirstAt;
+        pub fn rn_here_at(records: *const u8, len: usize, at: usize) -> HereAt;
     }
 }
 
@@ -78,4 +96,10 @@ pub fn marker_at(records: &[u8], at: usize) -> &[u8] {
 pub fn text_at(records: &[u8], at: usize, n: usize) -> &[u8] {
     let part = unsafe { raw::rn_text_at(records.as_ptr(), records.len(), at, n) };
     &records[part.start..part.start + part.length]
+}
+pub fn first_at(records: &[u8], at: usize) -> FirstAt {
+    unsafe { raw::rn_first_at(records.as_ptr(), records.len(), at) }
+}
+pub fn here_at(records: &[u8], at: usize) -> HereAt {
+    unsafe { raw::rn_here_at(records.as_ptr(), records.len(), at) }
 }

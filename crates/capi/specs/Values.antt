@@ -1,22 +1,22 @@
 -- What C is given for each answer: document 01's number and values, 0 where there is none.
 -- Assumes nothing.
-use Prim.Native.Nat.{ℕ, _+_, _≤_}
-use mathlib.Core.Path.{_≡_}
+use Prim.Native.Nat.{ℕ, _-_}
 use mathlib.Core.Bool.{Bool, true, false}
-use mathlib.Core.List.{List}
 use mathlib.Core.Option.{Option, none, some}
-use lib.ListN.{length, take, drop}
 use Rattle.text.specs.Outcome.{Outcome, number, returned}
 use Rattle.html.specs.declared.Answer as H
 use Rattle.html.specs.Answers.{answer-number, answer-length}
 use Rattle.markdown.specs.declared.Answer as MA
 use Rattle.markdown.specs.Answers as M
 use Rattle.records.specs.Answers.{Answer, at-end, refused, gives, BlockValues, Emphasis}
+use Rattle.records.specs.declared.walker.Range.{Range}
 use Rattle.sheet.specs.Calls as S
 use Rattle.sheet.specs.Calls.{no-utf8, no-sheet, yes-sheet}
 use Rattle.capi.specs.declared.Written.{Written}
 use Rattle.capi.specs.declared.BlockAt.{BlockAt}
 use Rattle.capi.specs.declared.SpanAt.{SpanAt}
+use Rattle.capi.specs.declared.FirstAt.{FirstAt}
+use Rattle.capi.specs.declared.HereAt.{HereAt}
 use Rattle.capi.specs.declared.Part.{Part}
 use Rattle.capi.specs.declared.Tested.{Tested}
 
@@ -54,10 +54,20 @@ span-struct at-end = record { number = 0; kind = 0; bold = 0; italic = 0; code =
 span-struct (refused n) = record { number = n; kind = 0; bold = 0; italic = 0; code = 0 }
 span-struct (gives e) = record { number = 0; kind = 1; bold = bit (e .bold); italic = bit (e .italic); code = bit (e .code) }
 
--- the part is there, and holds these bytes
-pub record PartIs (records bytes : List ℕ) (r : Part) : Type 0 where
-  pub inside : r .start + r .length ≤ length records
-  pub holds : take (r .length) (drop (r .start) records) ≡ bytes
+abbrev pub first-struct : Answer ℕ → FirstAt
+first-struct at-end = record { number = 0; at = 0 }
+first-struct (refused n) = record { number = n; at = 0 }
+first-struct (gives at) = record { number = 0; at = at }
+
+abbrev pub here-struct : Answer (Emphasis × Range) → HereAt
+here-struct at-end = record { number = 0; bold = 0; italic = 0; code = 0; start = 0; length = 0 }
+here-struct (refused n) = record { number = n; bold = 0; italic = 0; code = 0; start = 0; length = 0 }
+here-struct (gives v) =
+    record { number = 0; bold = bit (v .0 .bold); italic = bit (v .0 .italic); code = bit (v .0 .code); start = v .1 .start; length = v .1 .end - v .1 .start }
+
+-- a part by its length
+abbrev pub part-struct : Range → Part
+part-struct r = record { start = r .start; length = r .end - r .start }
 
 abbrev pub sheet-struct : S.Tested → Tested
 sheet-struct no-utf8 = record { number = 1; yes = 0; bytes = 0; characters = 0 }

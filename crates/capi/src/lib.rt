@@ -1,14 +1,18 @@
 // The calls for C: numbers, and slices as a pointer and a length. include/release_notes.h says the same for a C programmer.
 ghost use mathlib.Core.Path.{_≡_};
-ghost use Rattle.text.specs.Utf8.{encode};
-ghost use Rattle.records.specs.Answers.{block-answer, marker-answer, span-answer, text-answer};
+ghost use Prim.Native.Nat.{_≤_};
+ghost use Rattle.records.specs.Answers.{block-answer, span-answer};
+ghost use Rattle.records.specs.Places.{marker-place, text-place, first-answer, here-answer};
 ghost use lib.ListN.{length};
 ghost use Rattle.html.specs.Calls.{html-to-markdown-call};
 ghost use Rattle.text.specs.Outcome.{result-after, work-kept};
 ghost use Rattle.markdown.specs.Calls.{blocks-call};
 ghost use Rattle.sheet.specs.Calls.{sheet-call};
-ghost use Rattle.capi.specs.Values.{bit, page-struct, markdown-struct, written-struct, block-struct, span-struct, sheet-struct, PartIs};
+ghost use Rattle.capi.specs.Values.{bit, page-struct, markdown-struct, written-struct, block-struct, span-struct, first-struct, here-struct, part-struct, sheet-struct};
 use records::walker::BlockAnswer;
+use records::walker::FirstAnswer;
+use records::walker::HereAnswer;
+use records::walker::Range;
 use records::walker::SpanAnswer;
 use sheet::Verdict;
 
@@ -115,6 +119,24 @@ pub struct SpanAt {
     pub code: u32,
 }
 
+// Where the first span of a block stands; 0 at the end of the records.
+#[repr(C)]
+pub struct FirstAt {
+    pub number: u32,
+    pub at: usize,
+}
+
+// A span by its own offset: its emphasis, and its text. The next span stands at start + length.
+#[repr(C)]
+pub struct HereAt {
+    pub number: u32,
+    pub bold: u32,
+    pub italic: u32,
+    pub code: u32,
+    pub start: usize,
+    pub length: usize,
+}
+
 // A part of the records.
 #[repr(C)]
 pub struct Part {
@@ -214,11 +236,10 @@ pub extern "C" fn rn_span_at(records: &[u8], at: usize, n: usize) -> SpanAt
     }
 }
 
-#[no_mangle]
-pub extern "C" fn rn_marker_at(records: &[u8], at: usize) -> Part
-    ensures { λ r. ⌜ PartIs (now (records .entry)) (encode (marker-answer (now (records .entry)) at)) r ⌝ }
+fn by_length(range: Range) -> Part
+    requires { ⌜ range .start ≤ range .end ⌝ }
+    ensures { λ r. ⌜ r ≡ part-struct range ⌝ }
 {
-    let range = records::walker::marker_range(records, at);
     Part {
         start: range.start,
         length: range.end - range.start,
@@ -226,13 +247,62 @@ pub extern "C" fn rn_marker_at(records: &[u8], at: usize) -> Part
 }
 
 #[no_mangle]
+pub extern "C" fn rn_marker_at(records: &[u8], at: usize) -> Part
+    ensures { λ r. ⌜ r ≡ part-struct (marker-place (now (records .entry)) at) ⌝ }
+{
+    let range = records::walker::marker_range(records, at);
+    by_length(range)
+}
+
+#[no_mangle]
 pub extern "C" fn rn_text_at(records: &[u8], at: usize, n: usize) -> Part
-    ensures { λ r. ⌜ PartIs (now (records .entry)) (encode (text-answer (now (records .entry)) at n)) r ⌝ }
+    ensures { λ r. ⌜ r ≡ part-struct (text-place (now (records .entry)) at n) ⌝ }
 {
     let range = records::walker::text_range(records, at, n);
-    Part {
-        start: range.start,
-        length: range.end - range.start,
+    by_length(range)
+}
+
+#[no_mangle]
+pub extern "C" fn rn_first_at(records: &[u8], at: usize) -> FirstAt
+    ensures { λ r. ⌜ r ≡ first-struct (first-answer (now (records .entry)) at) ⌝ }
+{
+    match records::walker::first_at(records, at) {
+        FirstAnswer::At(first) => FirstAt {
+            number: 0,
+            at: first,
+        },
+        FirstAnswer::End => FirstAt { number: 0, at: 0 },
+        FirstAnswer::Bad => FirstAt { number: 7, at: 0 },
+    }
+}
+
+#[no_mangle]
+pub extern "C" fn rn_here_at(records: &[u8], at: usize) -> HereAt
+    ensures { λ r. ⌜ r ≡ here-struct (here-answer (now (records .entry)) at) ⌝ }
+{
+    match records::walker::here_at(records, at) {
+        HereAnswer::Span {
+            bold,
+            italic,
+            code,
+            start,
+            end,
+        } => HereAt {
+            number: 0,
+            bold: flag(bold),
+            italic: flag(italic),
+            code: flag(code),
+            start,
+            length: end - start,
+        },
+        HereAnswer::Bad => HereAt {
+            number: 7,
+            bold: 0,
+            italic: 0,
+            code: 0,
+            start: 0,
+            length: 0,
+        },
     }
 }
 

@@ -5,7 +5,7 @@ use mathlib.Core.Path.{_≡_, refl, sym, ap, subst, _∙_}
 use mathlib.Core.List.{List, [], _∷_}
 use lib.ListN.{length, drop}
 use Rattle.records.specs.Blocks.{Span}
-use Rattle.records.specs.Decode.{Parse, failed, parsed, span-at, spans-at, Head, head-at, block-at}
+use Rattle.records.specs.Decode.{Parse, failed, parsed, span-at, spans-at, block-at}
 use Rattle.records.specs.Readers.{rest, EndIs, end-parse, end-next, kind-of, kind-placed, HeadIs, head-placed, Found, WholeIs}
 use Rattle.records.specs.declared.reader.Kind as K
 use Rattle.records.specs.declared.reader.Head as H
@@ -24,14 +24,14 @@ rest-parsed : {A : Type 0} (p : Parse A) {q : List ℕ} → rest p ≡ parsed tt
 rest-parsed failed e = not-failed e
 rest-parsed (parsed a q) e = (a, cc)
 
-module _ (s : List ℕ) (at : ℕ) {h : H.Head} (w : HeadIs (head-at (drop at s)) s h) where
+module _ (s : List ℕ) (at : ℕ) {h : H.Head} (w : HeadIs s at h) where
   pub whole-none : h ≡ HV.Bad → block-at (drop at s) ≡ failed
   unfolding block-at
   whole-none e = rw (w .read, e)
 
   module _ {k : K.Kind} {n first : ℕ} (e : h ≡ HV.At k n first) where
-    head-stands : kind-placed s k × (first ≤ length s)
-    head-stands = subst (head-placed s) e (w .placed)
+    head-stands : kind-placed s at k × (first ≤ length s)
+    head-stands = subst (head-placed s at) e (w .placed)
 
     pub head-starts : first ≤ length s
     head-starts = head-stands .1

@@ -91,7 +91,7 @@ part-chars n s {t} {r} h w =
       left = x .left;
     }
 
-text-some : (cs : List ℕ) → 1 ≤ size cs → (encode-text cs ≡ le32 (size cs) ++ encode cs) × (non-empty cs ≡ true)
+pub text-some : (cs : List ℕ) → 1 ≤ size cs → (encode-text cs ≡ le32 (size cs) ++ encode cs) × (non-empty cs ≡ true)
 unfolding size
 text-some [] h = absurd (omega arith)
 text-some (c ∷ cs) h = (refl, refl)

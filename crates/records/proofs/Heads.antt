@@ -2,17 +2,17 @@
 -- Assumes nothing.
 use Prim.Native.Nat.{ℕ, _+_, _-_, _%_, _<_, _≤_, zero-le}
 use native.Mathlib.Omega.{arith}
-use mathlib.Core.Path.{_≡_, subst}
+use mathlib.Core.Path.{_≡_, refl, ap, subst, _∙_}
 use mathlib.Core.Bool.{Bool, true, false}
 use mathlib.Core.List.{List}
-use lib.ListN.{length, drop, getD, drop-of-length-le}
+use lib.ListN.{length, drop, getD, length-drop, drop-of-length-le}
 use lib.Dec.{leb}
 use borrow.Author.Tests.{le-leb, lt-leb, lt-ltb, le-ltb, eq-eqb, ne-eqb}
 use Rattle.records.specs.Blocks.{Kind}
-use Rattle.text.specs.Utf8.{chars}
+use Rattle.text.specs.Utf8.{size, chars}
 use Rattle.records.specs.Format.{is-marker}
-use Rattle.records.specs.Decode.{Parse, u16, u32, level-at, marker-at, item-at, kind-at, count-at, head-at}
-use Rattle.records.specs.Readers.{NumberIs, between, KindIs, kind-read-placed, HeadIs}
+use Rattle.records.specs.Decode.{Parse, u16, u32, level-at, marker-at, item-at, kind-at, count-at, head-at, parsed}
+use Rattle.records.specs.Readers.{NumberIs, between, Within, KindIs, kind-of, kind-ended, kind-parse, kind-read-placed, kind-placed, HeadIs}
 use Rattle.records.specs.declared.fields.Number.{Number}
 use Rattle.records.specs.declared.fields.Number.the-variants.{Value, Bad}
 use Rattle.records.specs.declared.reader.Kind as K
@@ -21,7 +21,8 @@ use Rattle.records.specs.declared.reader.KindRead.{KindRead}
 use Rattle.records.specs.declared.reader.KindRead.the-variants as KR
 use Rattle.records.specs.declared.reader.Head.the-variants as H
 use Rattle.records.proofs.Front.{front}
-use Rattle.records.proofs.Spans.{number-bad, number-read, number-within, part-short, part-is}
+use Rattle.records.proofs.Spans.{number-bad, number-read, number-within, part-short, part-is, between-size}
+use Rattle.records.proofs.Placed.{after-length, kind-ends}
 
 pub level-end : (s : List ℕ) (at : ℕ) → length s ≤ at → KindIs (level-at (drop at s)) s KR.Bad
 unfolding level-at
@@ -56,7 +57,7 @@ module _ (s : List ℕ) (at : ℕ) (h : at < length s) {n : ℕ} (e : n ≡ getD
 
       pub marker-is : t ≡ true → KindIs (marker-at d (drop at s)) s (KR.At (KV.Item d (at + 1) (at + 1 + n)) (at + 1 + n))
       unfolding marker-at
-      marker-is f = record { read = rw (front s at h, ← e, part-is s (at + 1) n l, ← u, f); placed = ((omega arith, omega arith), omega arith) }
+      marker-is f = record { read = rw (front s at h, ← e, part-is s (at + 1) n l, ← u, f); placed = ((omega arith, refl), omega arith) }
 
 module _ (s : List ℕ) (at : ℕ) {r : Number} (w : NumberIs (u16 (drop at s)) s r) where
   pub item-none : r ≡ Bad → KindIs (item-at (drop at s)) s KR.Bad
@@ -118,25 +119,37 @@ module _ (s : List ℕ) (at : ℕ) {b : Bool} where
 pub kind-within : {p : Parse Kind} {s : List ℕ} {r : KindRead} → KindIs p s r → {k : K.Kind} {next : ℕ} → r ≡ KR.At k next → next ≤ length s
 kind-within {s = s} w e = subst (kind-read-placed s) e (w .placed) .1
 
-pub head-end : (s : List ℕ) (at : ℕ) → length s ≤ at → HeadIs (head-at (drop at s)) s H.Bad
+-- a marker, which is the last field of its kind, stands where the record's form says
+module _ (s : List ℕ) (at b : ℕ) (h : at < length s) {next : ℕ} (l : next ≤ length s) where
+  pub kind-stands : (k : K.Kind) → kind-at b (drop (at + 1) s) ≡ parsed (kind-of s k) (drop next s) → kind-ended next k → kind-placed s at k
+  kind-stands (KV.Heading n) p e = tt
+  kind-stands KV.Paragraph p e = tt
+  kind-stands (KV.Item d start end) p e =
+      let (o, f) = e in
+      let w : Within s start end = (o, rw f l) in
+      let n : size (chars (between s start end)) ≡ end - start = between-size s start end w in
+      let a = after-length (kind-ends 0 b (drop (at + 1) s) p .after) in
+      (w, omega (arith, length-drop (at + 1) s, length-drop next s))
+
+pub head-end : (s : List ℕ) (at : ℕ) → length s ≤ at → HeadIs s at H.Bad
 unfolding head-at
 head-end s at h = record { read = rw (drop-of-length-le s h); placed = tt }
 
 module _ (s : List ℕ) (at : ℕ) (h : at < length s) where
-  pub head-high : 16 ≤ getD s at 0 → HeadIs (head-at (drop at s)) s H.Bad
+  pub head-high : 16 ≤ getD s at 0 → HeadIs s at H.Bad
   unfolding head-at
   head-high l = record { read = rw (front s at h, le-ltb (getD s at 0) 16 l); placed = tt }
 
   module _ (hi : getD s at 0 < 16) {k : KindRead} (w : KindIs (kind-at (getD s at 0 % 8) (drop (at + 1) s)) s k) where
-    pub head-none : k ≡ KR.Bad → HeadIs (head-at (drop at s)) s H.Bad
+    pub head-none : k ≡ KR.Bad → HeadIs s at H.Bad
     unfolding head-at
     head-none e = record { read = rw (front s at h, lt-ltb (getD s at 0) 16 hi, w .read, e); placed = tt }
 
     module _ {kind : K.Kind} {next : ℕ} (e : k ≡ KR.At kind next) {r : Number} (x : NumberIs (count-at (leb 8 (getD s at 0)) (drop next s)) s r) where
-      pub head-uncounted : r ≡ Bad → HeadIs (head-at (drop at s)) s H.Bad
+      pub head-uncounted : r ≡ Bad → HeadIs s at H.Bad
       unfolding head-at
       head-uncounted f = record { read = rw (front s at h, lt-ltb (getD s at 0) 16 hi, w .read, e, number-bad x f); placed = tt }
 
-      pub head-is : {n first : ℕ} → r ≡ Value n first → HeadIs (head-at (drop at s)) s (H.At kind n first)
+      pub head-is : {n first : ℕ} → r ≡ Value n first → HeadIs s at (H.At kind n first)
       unfolding head-at
-      head-is f = record { read = rw (front s at h, lt-ltb (getD s at 0) 16 hi, w .read, e, number-read x f); placed = (subst (kind-read-placed s) e (w .placed) .0, number-within x f) }
+      head-is f = record { read = rw (front s at h, lt-ltb (getD s at 0) 16 hi, w .read, e, number-read x f); placed = (kind-stands s at (getD s at 0 % 8) h (kind-within w e) kind (w .read ∙ ap (kind-parse s) e) (subst (kind-read-placed s) e (w .placed) .0), number-within x f) }

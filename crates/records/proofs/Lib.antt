@@ -4,14 +4,15 @@ pub mod Markers
 pub mod Encoded
 pub mod EncodedBytes
 pub mod Decoded
+pub mod Placed
 pub mod RoundTrip
 pub mod Spans
 pub mod Heads
 pub mod Blocks
 pub mod WalkerLaws
+pub mod PlaceLaws
 pub mod NumberLaws
 pub mod Walked
-pub mod FormatLaws
 pub mod Stores
 pub mod Held
 pub mod Examples

@@ -4,11 +4,16 @@ use Prim.Native.Nat.{ℕ}
 use mathlib.Core.Path.{_≡_, refl, sym, ap, _∙_}
 use mathlib.Core.Option.{Option, none, some}
 use Rattle.records.specs.Answers.{Answer, at-end, refused, gives, BlockValues, Emphasis}
-use Rattle.records.specs.Numbers.{block-values, span-values}
+use Rattle.records.specs.Numbers.{block-values, span-values, first-values, here-values}
 use Rattle.records.specs.declared.walker.BlockAnswer.{BlockAnswer}
 use Rattle.records.specs.declared.walker.BlockAnswer.the-variants as B
 use Rattle.records.specs.declared.walker.SpanAnswer.{SpanAnswer}
 use Rattle.records.specs.declared.walker.SpanAnswer.the-variants as S
+use Rattle.records.specs.declared.walker.Range.{Range}
+use Rattle.records.specs.declared.walker.FirstAnswer.{FirstAnswer}
+use Rattle.records.specs.declared.walker.FirstAnswer.the-variants as F
+use Rattle.records.specs.declared.walker.HereAnswer.{HereAnswer}
+use Rattle.records.specs.declared.walker.HereAnswer.the-variants as H
 
 block-of : Option ℕ → Option ℕ → ℕ → ℕ → BlockAnswer
 block-of (some l) d n next = B.Heading l n next
@@ -44,3 +49,30 @@ span-back S.Bad = refl
 
 pub span-values-one : (q r : SpanAnswer) → span-values q ≡ span-values r → q ≡ r
 span-values-one q r e = sym (span-back q) ∙ ap span-case e ∙ span-back r
+
+first-case : Answer ℕ → FirstAnswer
+first-case at-end = F.End
+first-case (refused n) = F.Bad
+first-case (gives at) = F.At at
+
+first-back : (r : FirstAnswer) → first-case (first-values r) ≡ r
+unfolding first-case
+first-back (F.At at) = refl
+first-back F.End = refl
+first-back F.Bad = refl
+
+pub first-values-one : (q r : FirstAnswer) → first-values q ≡ first-values r → q ≡ r
+first-values-one q r e = sym (first-back q) ∙ ap first-case e ∙ first-back r
+
+here-case : Answer (Emphasis × Range) → HereAnswer
+here-case at-end = H.Bad
+here-case (refused n) = H.Bad
+here-case (gives v) = H.Span (v .0 .bold) (v .0 .italic) (v .0 .code) (v .1 .start) (v .1 .end)
+
+here-back : (r : HereAnswer) → here-case (here-values r) ≡ r
+unfolding here-case
+here-back (H.Span b i c start end) = refl
+here-back H.Bad = refl
+
+pub here-values-one : (q r : HereAnswer) → here-values q ≡ here-values r → q ≡ r
+here-values-one q r e = sym (here-back q) ∙ ap here-case e ∙ here-back r

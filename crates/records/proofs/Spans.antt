@@ -8,20 +8,21 @@ use mathlib.Core.Path.{_≡_, refl, sym, ap, subst, _∙_}
 use mathlib.Core.Bool.{Bool, true, false}
 use mathlib.Core.List.{List, _∷_}
 use lib.ListN.{length, drop, getD, length-drop, drop-of-length-le}
-use lib.Seq.{drop-drop}
+use lib.Seq.{drop-drop, length-take-le}
 use lib.Dec.{eqb}
 use borrow.Author.Tests.{le-leb, lt-leb, lt-ltb, le-ltb}
-use Rattle.text.specs.Utf8.{is-utf8}
-use Rattle.text.proofs.Laws.{chars-nil}
+use Rattle.text.specs.Utf8.{size, chars, is-utf8}
+use Rattle.text.proofs.Laws.{chars-nil, encode-chars}
 use Rattle.records.specs.Blocks.{Span}
 use Rattle.records.specs.Decode.{Parse, _▹_, u32, part, text-at, span-at, spans-at, failed, parsed}
-use Rattle.records.specs.Readers.{NumberIs, number-parse, number-next, between, PartIs, part-placed, SpanIs, span-parse, span-placed, rest}
+use Rattle.records.specs.Readers.{NumberIs, number-parse, number-next, between, Within, PartIs, part-placed, SpanIs, span-parse, span-placed, rest}
 use Rattle.records.specs.declared.fields.Number.{Number}
 use Rattle.records.specs.declared.fields.Number.the-variants.{Value, Bad}
 use Rattle.records.specs.declared.reader.Part.{Part}
 use Rattle.records.specs.declared.reader.Part.the-variants as P
 use Rattle.records.specs.declared.reader.SpanRead.{SpanRead}
 use Rattle.records.specs.declared.reader.SpanRead.the-variants as S
+use Rattle.records.proofs.TextMore.{size-encode}
 use Rattle.records.proofs.Front.{front}
 
 -- a callee's answer, once its case is known
@@ -45,6 +46,12 @@ module _ (s : List ℕ) (at n : ℕ) where
   pub part-is : n ≤ length s - at → part n (drop at s) ≡ parsed (between s at (at + n)) (drop (at + n) s)
   unfolding part
   part-is h = rw (length-drop at s, le-leb _ _ h, drop-drop n at s, add-sub-cancel-left at n)
+
+pub between-size : (s : List ℕ) (start end : ℕ) → Within s start end → size (chars (between s start end)) ≡ end - start
+between-size s start end w =
+    let (l, m) = w in
+    let n : end - start ≤ length (drop start s) = rw length-drop (omega arith) in
+    size-encode (chars (between s start end)) ∙ ap length (encode-chars (between s start end)) ∙ length-take-le (end - start) (drop start s) n
 
 module _ (s : List ℕ) (at : ℕ) {r : Number} (w : NumberIs (u32 (drop at s)) s r) where
   pub text-none : r ≡ Bad → PartIs (text-at (drop at s)) s P.Bad

@@ -61,10 +61,10 @@ values-of b next = record { level = level-of (b .kind); depth = depth-of (b .kin
 abbrev pub emphasis-of : Span → Emphasis
 emphasis-of x = record { bold = x .bold; italic = x .italic; code = x .code }
 
--- a block and the offset after it, in records of this length; 7 where no block stands
-abbrev pub placed : ℕ → Parse Block → Answer (Block × ℕ)
+-- what was read and the offset after it, in records of this length; 7 where nothing well-formed stands
+abbrev pub placed : {A : Type 0} → ℕ → Parse A → Answer (A × ℕ)
 placed size failed = refused 7
-placed size (parsed b r) = gives (b, size - length r)
+placed size (parsed a r) = gives (a, size - length r)
 
 -- the block at an offset; the end at the records' length; past it no block stands
 unfoldable pub found-at : List ℕ → ℕ → Answer (Block × ℕ)

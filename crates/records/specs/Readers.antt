@@ -1,13 +1,14 @@
 -- What the inner readers promise: an answer says what the decoder finds at an offset, and where the rest starts.
 -- Assumes nothing.
-use Prim.Native.Nat.{ℕ, _-_, _≤_}
+use Prim.Native.Nat.{ℕ, _+_, _-_, _≤_}
 use mathlib.Core.Path.{_≡_}
 use mathlib.Core.List.{List}
 use lib.ListN.{length, take, drop}
 use Rattle.text.specs.Utf8.{chars}
 use Rattle.records.specs.Blocks.{Span, Kind, heading, paragraph, item}
-use Rattle.records.specs.Decode.{Parse, failed, parsed, Head, spans-at, block-at}
+use Rattle.records.specs.Decode.{Parse, failed, parsed, Head, spans-at, head-at, block-at}
 use Rattle.records.specs.Answers.{Answer, at-end, refused, gives, span-in}
+use Rattle.records.specs.Places.{nowhere, marker-from, text-place}
 use Rattle.records.specs.declared.fields.Number.{Number}
 use Rattle.records.specs.declared.fields.Number.the-variants.{Value, Bad}
 use Rattle.records.specs.declared.reader.Part.{Part}
@@ -92,48 +93,53 @@ pub record EndIs {A : Type 0} (p : Parse A) (s : List ℕ) (r : SpansEnd) : Type
   pub read : rest p ≡ end-parse s r
   pub within : end-next r ≤ length s
 
--- the fields of a kind
+-- the fields of a kind, of which a marker is the last
 abbrev pub kind-of : List ℕ → K.Kind → Kind
 kind-of s (KV.Heading l) = heading l
 kind-of s KV.Paragraph = paragraph
 kind-of s (KV.Item d start end) = item d (chars (between s start end))
 
-abbrev pub kind-placed : List ℕ → K.Kind → Type 0
-kind-placed s (KV.Heading l) = Unit {0}
-kind-placed s KV.Paragraph = Unit {0}
-kind-placed s (KV.Item d start end) = Within s start end
+abbrev pub kind-ended : ℕ → K.Kind → Type 0
+kind-ended next (KV.Heading l) = Unit {0}
+kind-ended next KV.Paragraph = Unit {0}
+kind-ended next (KV.Item d start end) = (start ≤ end) × (end ≡ next)
 
 abbrev pub kind-parse : List ℕ → KindRead → Parse Kind
 kind-parse s (KR.At k next) = parsed (kind-of s k) (drop next s)
 kind-parse s KR.Bad = failed
 
 abbrev pub kind-read-placed : List ℕ → KindRead → Type 0
-kind-read-placed s (KR.At k next) = kind-placed s k × (next ≤ length s)
+kind-read-placed s (KR.At k next) = kind-ended next k × (next ≤ length s)
 kind-read-placed s KR.Bad = Unit {0}
 
 pub record KindIs (p : Parse Kind) (s : List ℕ) (r : KindRead) : Type 0 where
   pub read : p ≡ kind-parse s r
   pub placed : kind-read-placed s r
 
--- what stands before the spans
+-- what stands before the spans, in a block at an offset
+abbrev pub kind-placed : List ℕ → ℕ → K.Kind → Type 0
+kind-placed s at (KV.Heading l) = Unit {0}
+kind-placed s at KV.Paragraph = Unit {0}
+kind-placed s at (KV.Item d start end) = Within s start end × (start ≡ at + marker-from d)
+
 abbrev pub head-parse : List ℕ → H.Head → Parse Head
 head-parse s (HV.At k n first) = parsed (record { kind = kind-of s k; count = n }) (drop first s)
 head-parse s HV.Bad = failed
 
-abbrev pub head-placed : List ℕ → H.Head → Type 0
-head-placed s (HV.At k n first) = kind-placed s k × (first ≤ length s)
-head-placed s HV.Bad = Unit {0}
+abbrev pub head-placed : List ℕ → ℕ → H.Head → Type 0
+head-placed s at (HV.At k n first) = kind-placed s at k × (first ≤ length s)
+head-placed s at HV.Bad = Unit {0}
 
-pub record HeadIs (p : Parse Head) (s : List ℕ) (r : H.Head) : Type 0 where
-  pub read : p ≡ head-parse s r
-  pub placed : head-placed s r
+pub record HeadIs (s : List ℕ) (at : ℕ) (r : H.Head) : Type 0 where
+  pub read : head-at (drop at s) ≡ head-parse s r
+  pub placed : head-placed s at r
 
 -- a whole block, whose spans xs start at first
 pub record Found (s : List ℕ) (at : ℕ) (k : K.Kind) (n first next : ℕ) : Type 0 where
   pub xs : List Span
   pub spans : spans-at n (drop first s) ≡ parsed xs (drop next s)
   pub block : block-at (drop at s) ≡ parsed (record { kind = kind-of s k; spans = xs }) (drop next s)
-  pub placed : kind-placed s k
+  pub placed : kind-placed s at k
   pub starts : first ≤ length s
   pub within : next ≤ length s
 
@@ -147,16 +153,11 @@ nth-asked s (N.At b i c start end) = gives (record { text = chars (between s sta
 nth-asked s N.End = at-end
 nth-asked s N.Bad = refused 7
 
-abbrev pub nth-placed : List ℕ → Nth → Type 0
-nth-placed s (N.At b i c start end) = Within s start end
-nth-placed s N.End = Unit {0}
-nth-placed s N.Bad = Unit {0}
+abbrev pub nth-at : Nth → Range
+nth-at (N.At b i c start end) = record { start = start; end = end }
+nth-at N.End = nowhere
+nth-at N.Bad = nowhere
 
 pub record NthIs (s : List ℕ) (at n : ℕ) (r : Nth) : Type 0 where
   pub read : span-in s at n ≡ nth-asked s r
-  pub placed : nth-placed s r
-
--- where a part of the records stands
-pub record RangeIs (s part : List ℕ) (r : Range) : Type 0 where
-  pub placed : Within s (r .start) (r .end)
-  pub holds : between s (r .start) (r .end) ≡ part
+  pub placed : text-place s at n ≡ nth-at r

@@ -1,7 +1,7 @@
 // Reading a block of lent bytes. Each reader answers what it found at an offset, and the offset after it.
 ghost use Prim.Native.Nat.{_≤_};
 ghost use lib.ListN.{length, drop};
-ghost use Rattle.records.specs.Decode.{text-at, span-at, spans-at, level-at, marker-at, item-at, kind-at, count-at, head-at};
+ghost use Rattle.records.specs.Decode.{text-at, span-at, spans-at, level-at, marker-at, item-at, kind-at, count-at};
 ghost use Rattle.records.specs.Readers.{NumberIs, PartIs, SpanIs, EndIs, KindIs, HeadIs, WholeIs};
 use crate::fields::Number;
 use crate::fields::is_marker;
@@ -239,7 +239,7 @@ enum Head {
 }
 
 fn head_at(s: &[u8], at: usize) -> Head
-    ensures { λ r. ⌜ HeadIs (head-at (drop at (now (s .entry)))) (now (s .entry)) r ⌝ }
+    ensures { λ r. ⌜ HeadIs (now (s .entry)) at r ⌝ }
 {
     if s.len() <= at {
         return Head::Bad;

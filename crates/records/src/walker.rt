@@ -3,8 +3,9 @@
 ghost use mathlib.Core.Path.{_≡_};
 ghost use Rattle.text.specs.Utf8.{encode};
 ghost use Rattle.records.specs.Answers.{block-answer, marker-answer, span-answer, text-answer};
-ghost use Rattle.records.specs.Numbers.{block-values, span-values};
-ghost use Rattle.records.specs.Readers.{NthIs, RangeIs};
+ghost use Rattle.records.specs.Numbers.{block-values, span-values, first-values, here-values};
+ghost use Rattle.records.specs.Places.{marker-place, text-place, first-answer, here-answer};
+ghost use Rattle.records.specs.Readers.{NthIs};
 use crate::reader::Kind;
 use crate::reader::SpanRead;
 use crate::reader::SpansEnd;
@@ -67,7 +68,7 @@ pub struct Range {
 
 // Where the marker of the item at an offset stands; empty where there is none.
 pub fn marker_range(records: &[u8], at: usize) -> Range
-    ensures { λ r. ⌜ RangeIs (now (records .entry)) (encode (marker-answer (now (records .entry)) at)) r ⌝ }
+    ensures { λ r. ⌜ r ≡ marker-place (now (records .entry)) at ⌝ }
 {
     let Whole::At {
         kind,
@@ -181,7 +182,7 @@ pub fn span_at(records: &[u8], at: usize, n: usize) -> SpanAnswer
 
 // Where the text of a span stands; empty where there is none.
 pub fn text_range(records: &[u8], at: usize, n: usize) -> Range
-    ensures { λ r. ⌜ RangeIs (now (records .entry)) (encode (text-answer (now (records .entry)) at n)) r ⌝ }
+    ensures { λ r. ⌜ r ≡ text-place (now (records .entry)) at n ⌝ }
 {
     let Nth::At {
         bold: _,
@@ -204,6 +205,68 @@ pub fn text_at(records: &[u8], at: usize, n: usize) -> &[u8]
     let from = range.start;
     let to = range.end;
     &records[from..to]
+}
+
+// The calls above test the whole block each time. Whoever wants all its spans asks once where the first one stands, and then for each
+// span by its own offset, which is where the text before it ends: that takes time in proportion to the block.
+
+// Where the first span of a block stands; where there is none, the block's end. Bad is number 7.
+pub enum FirstAnswer {
+    At(usize),
+    End,
+    Bad,
+}
+
+pub fn first_at(records: &[u8], block: usize) -> FirstAnswer
+    ensures { λ r. ⌜ first-values r ≡ first-answer (now (records .entry)) block ⌝ }
+{
+    if block == records.len() {
+        return FirstAnswer::End;
+    }
+    let Whole::At {
+        kind: _,
+        count: _,
+        first,
+        next: _,
+    } = whole_at(records, block)
+    else {
+        return FirstAnswer::Bad;
+    };
+    FirstAnswer::At(first)
+}
+
+// A span by its own offset: its emphasis, and where its text starts and ends. Bad is number 7.
+pub enum HereAnswer {
+    Span {
+        bold: bool,
+        italic: bool,
+        code: bool,
+        start: usize,
+        end: usize,
+    },
+    Bad,
+}
+
+pub fn here_at(records: &[u8], at: usize) -> HereAnswer
+    ensures { λ r. ⌜ here-values r ≡ here-answer (now (records .entry)) at ⌝ }
+{
+    let SpanRead::At {
+        bold,
+        italic,
+        code,
+        start,
+        end,
+    } = span_read(records, at)
+    else {
+        return HereAnswer::Bad;
+    };
+    HereAnswer::Span {
+        bold,
+        italic,
+        code,
+        start,
+        end,
+    }
 }
 
 // The walker: the lent records and an offset. Its functions take it apart and call those above.

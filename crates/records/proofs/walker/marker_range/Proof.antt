@@ -1,8 +1,7 @@
 -- `walker::marker_range` meets its contract: each return is answered by one law, over plain lists and numbers.
 -- Assumes nothing.
-use native.Mathlib.Omega.{arith}
 use Rattle.records.proofs.Blocks.{whole-bad, whole-found}
-use Rattle.records.proofs.WalkerLaws.{marker-bad, marker-part, marker-none, marker-placed}
+use Rattle.records.proofs.WalkerLaws.{marker-bad, marker-none, marker-is}
 use borrow.Author.Needs.{needs}
 use Rattle.records.proofs.walker.marker_range.Statement.{statement}
 use Rattle.records.proofs.walker.marker_range.Tie as tie
@@ -19,12 +18,8 @@ enum-told c = search needs
 returns : tie.Need-returns
 returns c =
     let a = c .before .before .before .before .args in
-    record {
-      placed = omega arith;
-      holds =
-          marker-bad (a .records .now) (a .at)
-          (whole-bad (a .records .now) (a .at) (c .before .before .whole-at .ensures) (c .enum-told .given .1));
-    }
+    marker-bad (a .records .now) (a .at)
+    (whole-bad (a .records .now) (a .at) (c .before .before .whole-at .ensures) (c .enum-told .given .1))
 
 enum-known-kind-2 : tie.Need-enum-known-kind-2
 enum-known-kind-2 c = search needs
@@ -32,22 +27,16 @@ enum-known-kind-2 c = search needs
 returns-2 : tie.Need-returns-2
 returns-2 c =
     let a = c .before .before .before .before .before .before .args in
-    record {
-      placed = omega arith;
-      holds =
-          marker-none (a .records .now) (a .at)
-          (whole-found (a .records .now) (a .at) (c .before .before .before .before .whole-at .ensures) (c .before .before .kind .given .1))
-          (c .match2 .keys2);
-    }
+    marker-none (a .records .now) (a .at)
+    (whole-found (a .records .now) (a .at) (c .before .before .before .before .whole-at .ensures) (c .before .before .kind .given .1))
+    (c .match2 .keys2)
 
 returns-3 : tie.Need-returns-3
 returns-3 c =
     let a = c .before .before .before .before .before .before .before .before .args in
-    let f = whole-found (a .records .now) (a .at) (c .before .before .before .before .before .before .whole-at .ensures) (c .before .before .before .before .kind .given .1) in
-    record {
-      placed = marker-placed (a .records .now) (a .at) f (c .before .kind2 .given .1);
-      holds = marker-part (a .records .now) (a .at) f (c .before .kind2 .given .1);
-    }
+    marker-is (a .records .now) (a .at)
+    (whole-found (a .records .now) (a .at) (c .before .before .before .before .before .before .whole-at .ensures) (c .before .before .before .before .kind .given .1))
+    (c .before .kind2 .given .1)
 
 pub marker-range-spec : {M : Type 1} → statement M
 marker-range-spec =

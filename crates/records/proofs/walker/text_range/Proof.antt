@@ -1,7 +1,6 @@
 -- `walker::text_range` meets its contract: each return is answered by one law, over plain lists and numbers.
 -- Assumes nothing.
-use native.Mathlib.Omega.{arith}
-use Rattle.records.proofs.WalkerLaws.{text-part, text-none, text-placed}
+use Rattle.records.proofs.WalkerLaws.{text-none, text-case}
 use borrow.Author.Needs.{needs}
 use Rattle.records.proofs.walker.text_range.Statement.{statement}
 use Rattle.records.proofs.walker.text_range.Tie as tie
@@ -15,15 +14,12 @@ enum-known-start c = search needs
 returns : tie.Need-returns
 returns c =
     let a = c .before .before .before .args in
-    record { placed = omega arith; holds = text-none (a .records .now) (a .at) (a .n) (c .before .nth-at .ensures) (c .match .keys2) }
+    text-none (a .records .now) (a .at) (a .n) (c .before .nth-at .ensures) (c .match .keys2)
 
 returns-2 : tie.Need-returns-2
 returns-2 c =
     let a = c .before .before .before .before .before .args in
-    record {
-      placed = text-placed (a .records .now) (a .at) (a .n) (c .before .before .before .nth-at .ensures) (c .before .start .given .1);
-      holds = text-part (a .records .now) (a .at) (a .n) (c .before .before .before .nth-at .ensures) (c .before .start .given .1);
-    }
+    text-case (a .records .now) (a .at) (a .n) (c .before .before .before .nth-at .ensures) (c .before .start .given .1)
 
 pub text-range-spec : {M : Type 1} → statement M
 text-range-spec = tie.close (tie.spec nth-at-requires enum-known-start returns returns-2)
