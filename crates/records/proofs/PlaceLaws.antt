@@ -2,25 +2,25 @@
 -- Assumes nothing.
 use Prim.Native.Nat.{ℕ, zero, suc, _+_, _-_, _%_, _<_, _≤_, zero-le}
 use native.Mathlib.Omega.{arith}
-use mathlib.Core.Path.{_≡_, refl, sym, ap, subst, _∙_}
+use mathlib.Core.Path.{_≡_, refl, sym, ap, _∙_}
 use mathlib.Core.Bool.{Bool, true, false, cond}
 use mathlib.Core.List.{List, [], _∷_}
-use lib.ListN.{length, take, drop, length-append, length-drop, drop-of-length-le}
+use lib.ListN.{length, drop, length-append, drop-of-length-le}
 use lib.Dec.{leb, ltb, eqb}
 use borrow.Author.Tests.{leb-true, leb-false, ltb-true, ltb-false}
 use Rattle.text.specs.Utf8.{encode, size}
 use Rattle.text.proofs.Tests.{on}
 use Rattle.records.specs.Blocks.{Span, Kind, heading, paragraph, item, Block}
 use Rattle.records.specs.Format.{encode-span, encode-spans, bit}
-use Rattle.records.specs.Decode.{Parse, failed, parsed, span-at, spans-at, kind-at, count-at, Head, head-at, block-at}
+use Rattle.records.specs.Decode.{Parse, failed, parsed, span-at, spans-at, kind-at, count-at, head-at, block-at}
 use Rattle.records.specs.Answers.{Answer, at-end, refused, gives, map, Emphasis, placed, found-at, marker-of, text-or-none, marker-answer, emphasis-of, nth, nth-of, span-in, text-answer}
 use Rattle.records.specs.Places.{nowhere, range-or-none, marker-from, marker-range, marker-place, span-from, text-range, nth-range, text-place, here-answer}
 use Rattle.records.specs.Readers.{between, Within}
 use Rattle.records.specs.declared.walker.Range.{Range}
 use Rattle.records.proofs.Decoded.{not-failed, only-inv, then-inv}
-use Rattle.records.proofs.Placed.{After, Ends, after-length, then-after, then-ends, one-after, kind-bytes, kind-ends, count-after, span-ends, spans-after}
+use Rattle.records.proofs.Placed.{After, Ends, after-length, then-after, then-ends, kind-bytes, kind-ends, count-after, span-ends}
 use Rattle.records.proofs.Blocks.{spans-count}
-use Rattle.records.proofs.WalkerLaws.{nothing-there, Split, split, nth-over}
+use Rattle.records.proofs.WalkerLaws.{nothing-there, split, nth-over}
 
 -- a place inside the records, with the bytes of a text
 pub record Holds (s : List ℕ) (r : Range) (cs : List ℕ) : Type 0 where

@@ -1,21 +1,21 @@
 -- What a reading off the front takes: how many bytes, and that those of a text are the last of them.
 -- Assumes nothing.
-use Prim.Native.Nat.{ℕ, zero, suc, _+_, _-_, _%_, _<_, _≤_, zero-le}
+use Prim.Native.Nat.{ℕ, zero, suc, _+_, _-_, _≤_, zero-le}
 use native.Mathlib.Omega.{arith}
 use native.Mathlib.Nat.{sub-self}
 use mathlib.Core.Path.{_≡_, refl, sym, ap, subst, _∙_}
 use mathlib.Core.Bool.{Bool, true, false, cond}
 use mathlib.Core.Logic.{⊎-elim}
-use mathlib.Core.List.{List, [], _∷_, _++_}
+use mathlib.Core.List.{List, [], _∷_}
 use lib.ListN.{length, take, drop, length-append, length-drop}
 use lib.Seq.{drop-drop, length-take-le}
 use lib.Dec.{leb, ltb, eqb}
-use borrow.Author.Tests.{leb-true, le-leb}
+use borrow.Author.Tests.{leb-true}
 use Rattle.text.specs.Utf8.{encode, size, chars, is-utf8}
 use Rattle.text.proofs.Laws.{encode-chars}
 use Rattle.records.specs.Blocks.{Span, Kind, heading, paragraph, item}
 use Rattle.records.specs.Format.{encode-text, encode-span, encode-spans, is-marker, bit}
-use Rattle.records.specs.Decode.{Parse, _▹_, u16, u32, part, text-at, span-of, span-at, spans-at, level-at, marker-at, item-at, kind-at, count-at, failed, parsed}
+use Rattle.records.specs.Decode.{_▹_, u16, u32, part, text-at, span-of, span-at, spans-at, level-at, marker-at, item-at, kind-at, count-at, parsed}
 use Rattle.records.specs.Answers.{marker-of}
 use Rattle.records.specs.Places.{marker-from}
 use Rattle.records.proofs.TextMore.{size-encode}

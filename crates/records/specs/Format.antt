@@ -6,7 +6,7 @@ use mathlib.Core.Bool.{Bool, true, false, _&&_, _||_}
 use mathlib.Core.List.{List, [], _∷_, _++_}
 use lib.ListN.{length}
 use lib.Dec.{leb, eqb}
-use Rattle.text.specs.Words.{str, same, all}
+use Rattle.text.specs.Words.{str, same}
 use Rattle.text.specs.Chars.{is-digit}
 use Rattle.text.specs.Utf8.{Scalars, size, encode}
 use Rattle.records.specs.Blocks.{Span, Kind, heading, paragraph, item, Block}

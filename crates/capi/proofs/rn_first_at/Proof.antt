@@ -1,6 +1,6 @@
 -- `capi::rn_first_at` meets its contract: each case of the answer is given the values that the definition gives it.
 -- Assumes nothing.
-use mathlib.Core.Path.{_≡_, sym, ap, _∙_}
+use mathlib.Core.Path.{sym, ap, _∙_}
 use Rattle.records.specs.Numbers.{first-values}
 use Rattle.capi.specs.Values.{first-struct}
 use borrow.Author.Needs.{needs}

@@ -1,6 +1,6 @@
 -- `capi::rn_here_at` meets its contract: each case of the answer is given the values that the definition gives it.
 -- Assumes nothing.
-use mathlib.Core.Path.{_≡_, sym, ap, _∙_}
+use mathlib.Core.Path.{sym, ap, _∙_}
 use Rattle.records.specs.Numbers.{here-values}
 use Rattle.records.proofs.PlaceLaws.{here-ordered}
 use Rattle.capi.specs.Values.{here-struct}

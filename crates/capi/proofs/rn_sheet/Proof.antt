@@ -1,6 +1,6 @@
 -- `capi::rn_sheet` meets its contract: each case of the answer is given the values that the definition gives it.
 -- Assumes nothing.
-use mathlib.Core.Path.{_≡_, sym, ap, _∙_}
+use mathlib.Core.Path.{sym, ap, _∙_}
 use Rattle.sheet.specs.Calls.{answer}
 use Rattle.capi.specs.Values.{sheet-struct}
 use borrow.Author.Needs.{needs}

@@ -1,8 +1,5 @@
 -- `walker::marker_at` meets its contract: the place that `marker_range` answers is inside the records, and holds the bytes.
 -- Assumes nothing.
-use Prim.Native.Nat.{_≤_}
-use native.Mathlib.Omega.{arith}
-use lib.ListN.{length}
 use borrow.Author.Needs.{needs}
 use Rattle.records.proofs.PlaceLaws.{marker-holds}
 use Rattle.records.proofs.walker.marker_at.Statement.{statement}

@@ -1,8 +1,5 @@
 -- `walker::text_at` meets its contract: the place that `text_range` answers is inside the records, and holds the bytes.
 -- Assumes nothing.
-use Prim.Native.Nat.{_≤_}
-use native.Mathlib.Omega.{arith}
-use lib.ListN.{length}
 use borrow.Author.Needs.{needs}
 use Rattle.records.proofs.PlaceLaws.{text-holds}
 use Rattle.records.proofs.walker.text_at.Statement.{statement}

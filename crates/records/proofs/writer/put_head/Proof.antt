@@ -1,7 +1,7 @@
 -- `writer::put_head`: a byte and the four behind it are one run of stores, and past the end there is none.
 -- Assumes nothing.
 use Prim.Native.Nat.{ℕ, _+_}
-use mathlib.Core.Path.{_≡_, sym, ap, _∙_}
+use mathlib.Core.Path.{sym, ap, _∙_}
 use mathlib.Core.List.{List, [], _∷_}
 use lib.Seq.{sets}
 use borrow.Author.Needs.{needs}
