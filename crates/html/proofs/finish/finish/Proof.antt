@@ -18,6 +18,7 @@ use Rattle.html.proofs.finish.finish.Reads as reads
 use Rattle.html.proofs.finish.finish.Lts as lts
 use Rattle.html.proofs.finish.copy.Reads as copy-reads
 use Rattle.html.proofs.finish.first.Reads as first-reads
+use Rattle.text.proofs.trim.Reads as trim-reads
 
 slice-aggregate-trim : tie.Need-slice-aggregate-trim
 slice-aggregate-trim c = sym (length-take-le _ _ (c .before .before .before .pre .0))

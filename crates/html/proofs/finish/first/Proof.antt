@@ -13,6 +13,7 @@ use Rattle.html.proofs.finish.first.Statement.{statement}
 use Rattle.html.proofs.finish.first.Tie as tie
 use Rattle.html.proofs.finish.first.Reads as reads
 use Rattle.html.proofs.finish.first.Lts as lts
+use Rattle.text.proofs.size_at.Reads as size-at-reads
 
 abbrev Inv-loop : tie.InvT-loop
 Inv-loop s n i₀ k₀ i k = Pos s i k × (k ≤ n)

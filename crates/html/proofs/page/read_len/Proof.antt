@@ -7,6 +7,7 @@ use Rattle.html.proofs.page.read_len.Statement.{statement}
 use Rattle.html.proofs.page.read_len.Tie as tie
 use Rattle.html.proofs.page.read_len.Reads as reads
 use Rattle.html.proofs.page.read_len.Lts as lts
+use Rattle.text.proofs.cut_len.Reads as cut-len-reads
 
 returns : tie.Need-returns
 returns c = cut-all (now (c .before .before .args .page)) 1048576 (c .if1 .taken)
