@@ -1,6 +1,7 @@
 pub mod TextMore
 pub mod Front
 pub mod Markers
+pub mod FormatLaws
 pub mod Encoded
 pub mod EncodedBytes
 pub mod Decoded

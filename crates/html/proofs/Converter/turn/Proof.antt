@@ -17,9 +17,6 @@ use Rattle.html.proofs.Converter.turn.Lts as lts
 use Rattle.html.proofs.Converter.inside.Reads as inside-reads
 use Rattle.html.proofs.Converter.words.Reads as words-reads
 use Rattle.html.proofs.page.comment_end.Reads as comment-end-reads
-use Rattle.text.proofs.find.Reads as find-reads
-use Rattle.text.proofs.starts_with.Reads as starts-with-reads
-use Rattle.text.proofs.trim.Reads as trim-reads
 
 find-requires : tie.Need-find-requires
 find-requires c κs = search needs

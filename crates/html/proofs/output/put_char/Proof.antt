@@ -14,7 +14,6 @@ use Rattle.html.proofs.output.put_char.Statement.{statement}
 use Rattle.html.proofs.output.put_char.Tie as tie
 use Rattle.html.proofs.output.put_char.Reads as reads
 use Rattle.html.proofs.output.put_char.Lts as lts
-use Rattle.text.proofs.put.Reads as put-reads
 
 cast-out : tie.Need-cast-out
 cast-out c = search needs

@@ -14,7 +14,6 @@ use Rattle.html.proofs.page.comment_end.Statement.{statement}
 use Rattle.html.proofs.page.comment_end.Tie as tie
 use Rattle.html.proofs.page.comment_end.Reads as reads
 use Rattle.html.proofs.page.comment_end.Lts as lts
-use Rattle.text.proofs.starts_with.Reads as starts-with-reads
 
 abbrev Inv-loop : tie.InvT-loop
 Inv-loop html i j₀ t5 j = (closed (drop j html) ≡ closed (drop i html)) × ((i ≤ j) × (j ≤ length html))

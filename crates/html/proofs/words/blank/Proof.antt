@@ -6,7 +6,6 @@ use Rattle.html.proofs.words.blank.Statement.{statement}
 use Rattle.html.proofs.words.blank.Tie as tie
 use Rattle.html.proofs.words.blank.Reads as reads
 use Rattle.html.proofs.words.blank.Lts as lts
-use Rattle.text.proofs.is_space.Reads as is-space-reads
 
 is-space-requires : tie.Need-is-space-requires
 is-space-requires c κs = search needs

@@ -12,8 +12,6 @@ use Rattle.html.proofs.words.unescaped.Tie as tie
 use Rattle.html.proofs.words.unescaped.Reads as reads
 use Rattle.html.proofs.words.unescaped.Lts as lts
 use Rattle.reference.proofs.reference.Reads as reference-reads
-use Rattle.text.proofs.code_at.Reads as code-at-reads
-use Rattle.text.proofs.width.Reads as width-reads
 
 shared-slice-read-b : tie.Need-shared-slice-read-b
 shared-slice-read-b c = search needs

@@ -34,6 +34,7 @@ use Rattle.sheet.proofs.list.is_end.Reads as is-end-reads
 use Rattle.sheet.proofs.list.lead.Reads as lead-reads
 use Rattle.sheet.proofs.list.opening_at.Reads as opening-at-reads
 use Rattle.sheet.proofs.list.place.Reads as place-reads
+use Rattle.text.proofs.starts_with.Reads as starts-with-reads
 use Rattle.sheet.proofs.list.+item+list.{statement}
 use Rattle.sheet.proofs.list.+item+list.Tie.{close}
 
