@@ -64,11 +64,35 @@ space-ascii c h =
       or-false,
     )
 
-pub space-high : (c : ℕ) → 0x80 ≤ c
+space-high : (c : ℕ) → 0x80 ≤ c
     → is-space c
     ≡ (eqb c 133 || eqb c 160 || eqb c 5760 || within 8192 8202 c || eqb c 8232 || eqb c 8233 || eqb c 8239 || eqb c 8287 || eqb c 12288)
 unfolding is-space
 space-high c h = rw (within-above 9 13 c (omega arith) (omega arith), ne-eqb c 32 (omega arith))
+
+far-not : (c : ℕ) → (c < 8232) ⊎ (8287 < c) → (eqb c 8232 ≡ false) × ((eqb c 8233 ≡ false) × ((eqb c 8239 ≡ false) × (eqb c 8287 ≡ false)))
+far-not c h = (no 8232 (omega arith) (omega arith), (no 8233 (omega arith) (omega arith), (no 8239 (omega arith) (omega arith), no 8287 (omega arith) (omega arith))))
+  where
+    no : (x : ℕ) → 8232 ≤ x → x ≤ 8287 → eqb c x ≡ false
+    no x l m = ne-eqb c x (λ e. ⊎-elim (λ k. omega arith) (λ k. omega arith) h)
+
+-- by two tests more
+pub space-near : (c : ℕ) → 0x80 ≤ c → c < 0x2000 → is-space c ≡ (eqb c 133 || eqb c 160 || eqb c 5760)
+space-near c l h =
+    let f = far-not c (inl (omega arith)) in
+    space-high c l ∙ simp (within-below 8192 8202 c (omega arith), f .0, f .1 .0, f .1 .1 .0, f .1 .1 .1, ne-eqb c 12288 (omega arith), or-false)
+
+pub space-mid : (c : ℕ) → 0x2000 ≤ c → c < 0x2060 → is-space c ≡ (within 8192 8202 c || eqb c 8232 || eqb c 8233 || eqb c 8239 || eqb c 8287)
+space-mid c l h =
+    space-high c (omega arith)
+    ∙ rw (ne-eqb c 133 (omega arith), ne-eqb c 160 (omega arith), ne-eqb c 5760 (omega arith), ne-eqb c 12288 (omega arith))
+    (or-false (within 8192 8202 c || eqb c 8232 || eqb c 8233 || eqb c 8239 || eqb c 8287))
+
+pub space-far : (c : ℕ) → 0x2060 ≤ c → is-space c ≡ eqb c 12288
+space-far c l =
+    let f = far-not c (inr (omega arith)) in
+    space-high c (omega arith)
+    ∙ simp (ne-eqb c 133 (omega arith), ne-eqb c 160 (omega arith), ne-eqb c 5760 (omega arith), within-above 8192 8202 c (omega arith) (omega arith), f .0, f .1 .0, f .1 .1 .0, f .1 .1 .1)
 
 -- a space has at most three bytes
 pub space-size : (c : ℕ) → c ≤ 12288 → length (utf8 c) ≤ 3
