@@ -4,6 +4,7 @@ pub mod GrowLaws
 pub mod StepLaws
 pub mod NameLaws
 pub mod TextLaws
+pub mod AboveLaws
 pub mod SkipLaws
 pub mod CloseLaws
 pub mod FitLaws

@@ -8,15 +8,16 @@ use mathlib.Core.Bool.{Bool, true, false, not, _&&_, _||_}
 use mathlib.Core.Logic.{_⊎_, inl, inr, ⊎-elim}
 use mathlib.Core.Option.{Option, none, some}
 use mathlib.Core.List.{List, [], _∷_, _++_, reverseAux, append-cancel-left}
-use lib.Dec.{eqb}
-use lib.ListN.{length, getD, take, drop}
-use lib.Seq.{take-suc}
-use borrow.Author.Tests.{eq-eqb, ne-eqb, eqb-true}
-use Rattle.text.specs.Words.{if_then_else_, is, matches, str}
+use lib.Dec.{eqb, ltb}
+use lib.ListN.{length, getD, take, drop, drop-of-length-le}
+use lib.Seq.{take-suc, drop-cons}
+use borrow.Author.Tests.{eq-eqb, ne-eqb, eqb-true, ltb-true, ltb-false}
+use Rattle.text.specs.Words.{if_then_else_, is, matches, str, drop-while}
 use Rattle.text.specs.Chars.{within, is-space, is-alphanumeric}
 use Rattle.text.specs.Utf8.{IsScalar, Scalars, utf8, size, chars, code-at}
-use Rattle.text.proofs.Tests.{on, or-elim, and-false, within-true, within-above, within-below}
+use Rattle.text.proofs.Tests.{decide, on, or-elim, and-false, within-true, within-is, within-above, within-below, or-right}
 use Rattle.text.proofs.Utf8.{utf8-1}
+use Rattle.text.proofs.AsciiLaws.{chars-ascii}
 use Rattle.text.proofs.Laws.{turn-is, utf8-size, advance-end, advance-ascii}
 use Rattle.reference.specs.Unescape.{reference, unescape}
 use Rattle.reference.specs.Answers.{answer}
@@ -25,7 +26,7 @@ use Rattle.reference.specs.declared.Ampersand.the-variants.{Replaced, Left}
 use Rattle.reference.proofs.Laws.{left-at, replaced-at, read-is, unescape-nil, unescape-other, unescape-size}
 use Rattle.html.specs.State.{State, with-out, line-start, ends-with-digit, special, escape, put, spaced, next, put-all, text}
 use Rattle.html.specs.Struct.{out-of, with-space}
-use Rattle.html.specs.Pen.{pen-state, paused, opens, blank, Unescaped}
+use Rattle.html.specs.Pen.{pen-state, paused, opens, blank, ascii-space, Unescaped}
 use Rattle.html.specs.declared.words.Pen.{Pen}
 use Rattle.html.specs.declared.words.Piece.{Piece}
 use Rattle.html.proofs.OutLaws.{size-out}
@@ -189,6 +190,91 @@ module _ (raw : List ℕ) (s t : State) (n : ℕ) (out : List ℕ) (p : Pen) (i 
         bound = v .bound;
         room = omega (arith, k .room, some-size, v .size, v .bound);
       }
+
+-- ---- ASCII spaces after a space
+module _ (f : Bool) (c : State) (still : paused c ≡ c) (out : c .pre ≡ false) where
+  unfold-space : (b : ℕ) → ascii-space b ≡ true → (b < 0x80) × ((b ≡ 38 → ⊥) × (is-space b ≡ true))
+  unfolding ascii-space is-space
+  unfold-space b e =
+      or-elim (within 9 13 b) (eqb b 32)
+      (λ w. let p = within-true 9 13 b w in (omega (arith, p .1), (λ z. omega (arith, p .1), rw w)))
+      (λ w. let q = eqb-true b 32 w in (omega arith, (λ z. omega arith, rw q)))
+      e
+
+  next-blank : (b : ℕ) → blank (c .pre) b ≡ true → next f b c ≡ (f, c)
+  unfolding next blank paused
+  next-blank b e = rw e (ap (λ (d : State). (f, d)) still)
+
+  skip-one : (b : ℕ) (bs : List ℕ) → ascii-space b ≡ true → put-all f (unescape 0 (chars (b ∷ bs))) c ≡ put-all f (unescape 0 (chars bs)) c
+  unfolding put-all blank
+  skip-one b bs e =
+      let k = unfold-space b e in
+      ap (λ (l : List ℕ). put-all f l c) (ap (unescape 0) (chars-ascii b bs (k .0)) ∙ unescape-other b (chars bs) (ne-eqb b 38 (k .1 .0)))
+      ∙ ap (λ (n : Bool × State). put-all (n .0) (unescape 0 (chars bs)) (n .1)) (next-blank b (rw (out, k .1 .1)))
+
+  pub skip-blanks : (bs : List ℕ) → put-all f (unescape 0 (chars bs)) c ≡ put-all f (unescape 0 (chars (drop-while ascii-space bs))) c
+  unfolding drop-while
+  skip-blanks [] = refl
+  skip-blanks (b ∷ bs) =
+      ⊎-elim (λ e. skip-one b bs e ∙ skip-blanks bs ∙ rw e) (λ e. rw e) (decide (ascii-space b))
+
+-- the loop that looks for their end
+space-is : (b : ℕ) → ascii-space b ≡ not (not (eqb b 32) && (ltb b 9 || ltb 13 b))
+unfolding ascii-space
+space-is b = go (eqb b 32) (ltb b 9) refl (ltb 13 b) refl
+  where
+    go : (e l : Bool) → ltb b 9 ≡ l → (h : Bool) → ltb 13 b ≡ h → within 9 13 b || e ≡ not (not e && (l || h))
+    go true l p h q = or-right (within 9 13 b) true refl
+    go false true p h q = rw (within-below 9 13 b (ltb-true b 9 p))
+    go false false p true q = let m = ltb-true 13 b q in rw (within-above 9 13 b (omega arith) m)
+    go false false p false q = rw (within-is 9 13 b (ltb-false b 9 p) (ltb-false 13 b q))
+
+not-space : (b : ℕ) (t : Bool) → (not (eqb b 32) && (ltb b 9 || ltb 13 b)) ≡ t → ascii-space b ≡ not t
+not-space b t e = space-is b ∙ ap not e
+
+pub blanks-stop : (s : List ℕ) (j : ℕ) → j < length s → (not (eqb (getD s j 0) 32) && (ltb (getD s j 0) 9 || ltb 13 (getD s j 0))) ≡ true
+    → drop-while ascii-space (drop j s) ≡ drop j s
+unfolding drop-while
+blanks-stop s j l e = rw (drop-cons s j 0 l, not-space (getD s j 0) true e)
+
+pub blanks-more : (s : List ℕ) (j : ℕ) → j < length s → (not (eqb (getD s j 0) 32) && (ltb (getD s j 0) 9 || ltb 13 (getD s j 0))) ≡ false
+    → drop-while ascii-space (drop j s) ≡ drop-while ascii-space (drop (j + 1) s)
+unfolding drop-while
+blanks-more s j l e = rw (drop-cons s j 0 l, not-space (getD s j 0) false e, add-one j)
+
+pub blanks-end : (s : List ℕ) (j : ℕ) → length s ≤ j → drop-while ascii-space (drop j s) ≡ drop j s
+unfolding drop-while
+blanks-end s j l = rw (drop-of-length-le s l)
+
+pub blanks-scalars : (bs : List ℕ) → Scalars (chars bs) → Scalars (chars (drop-while ascii-space bs))
+unfolding drop-while ascii-space
+blanks-scalars [] h = h
+blanks-scalars (b ∷ bs) h =
+    ⊎-elim
+    (λ e.
+    let l : b < 0x80 = or-elim (within 9 13 b) (eqb b 32) (λ w. omega (arith, within-true 9 13 b w .1)) (λ w. omega (arith, eqb-true b 32 w)) e in
+    rw e (blanks-scalars bs (subst Scalars (chars-ascii b bs l) h .1)))
+    (λ e. rw e h)
+    (decide (ascii-space b))
+
+pub blank-out : (pre : Bool) (x : ℕ) → blank pre x ≡ true → pre ≡ false
+unfolding blank
+blank-out true x e = sym e
+blank-out false x e = refl
+
+pub ink-blanks : (raw : List ℕ) (s t : State) (n : ℕ) (out : List ℕ) (p r : Pen) (i j : ℕ) → Inking raw s t n out r i → s .pre ≡ false → pen-state s r out ≡ paused (pen-state s p out)
+    → drop j raw ≡ drop-while ascii-space (drop i raw) → i ≤ j → j ≤ length raw → Inking raw s t n out r j
+unfolding paused pen-state
+ink-blanks raw s t n out p r i j k b e d l m =
+    record {
+      same =
+          ap (λ (x : List ℕ). put-all (r .first) (unescape 0 (chars x)) (pen-state s r out)) d
+          ∙ sym (skip-blanks (r .first) (pen-state s r out) (ap paused e ∙ sym e) b (drop i raw))
+          ∙ k .same;
+      valid = rw d (blanks-scalars (drop i raw) (k .valid));
+      bound = m;
+      room = omega (arith, k .room);
+    }
 
 pub ink-done : (raw : List ℕ) (s t : State) (n : ℕ) (out : List ℕ) (p : Pen) (i : ℕ) → Inking raw s t n out p i → length raw ≤ i → pen-state s p out ≡ t
 unfolding put-all

@@ -2,12 +2,13 @@
 -- that it reads, a reference replaced.
 -- Assumes nothing.
 use Prim.Native.Nat.{ℕ, _+_, _-_, _≤_, _<_}
-use mathlib.Core.Bool.{Bool, not, _&&_}
+use mathlib.Core.Bool.{Bool, not, _&&_, _||_}
 use mathlib.Core.List.{List, _∷_}
 use mathlib.Core.Path.{_≡_}
 use lib.ListN.{length, drop}
 use Rattle.text.specs.Words.{matches}
-use Rattle.text.specs.Chars.{is-space}
+use lib.Dec.{eqb}
+use Rattle.text.specs.Chars.{within, is-space}
 use Rattle.text.specs.Utf8.{IsScalar, Scalars, utf8, chars}
 use Rattle.reference.specs.Unescape.{unescape}
 use Rattle.html.specs.State.{State, with-out, line-start}
@@ -30,6 +31,10 @@ opens x = matches "#-+>|" x
 -- a space outside `pre`
 unfoldable pub blank : Bool → ℕ → Bool
 blank pre x = not pre && is-space x
+
+-- a byte that is a space
+unfoldable pub ascii-space : ℕ → Bool
+ascii-space b = within 9 13 b || eqb b 32
 
 -- the character at an offset, and the offset behind it
 pub record Unescaped (s : List ℕ) (i : ℕ) (r : Piece) : Type 0 where

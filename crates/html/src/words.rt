@@ -10,13 +10,14 @@ ghost use Prim.Native.Nat.{ℕ, _+_, _*_, _≤_, _<_};
 ghost use mathlib.Core.List.{List};
 ghost use mathlib.Core.Bool.{true, false};
 ghost use Rattle.text.specs.Chars.{is-alphanumeric};
-ghost use lib.ListN.{length, drop};
+ghost use lib.ListN.{length, getD, drop};
+ghost use Rattle.text.specs.Words.{drop-while};
 ghost use Rattle.text.specs.Utf8.{IsScalar, Scalars, utf8, chars};
 ghost use Rattle.html.specs.State.{State, special, escape, put-all, text};
 ghost use Rattle.reference.specs.Unescape.{unescape};
 ghost use Rattle.html.specs.State as state;
 ghost use Rattle.html.specs.Struct.{state-of, out-of};
-ghost use Rattle.html.specs.Pen.{pen-state, paused, opens, blank, Unescaped};
+ghost use Rattle.html.specs.Pen.{pen-state, paused, opens, blank, ascii-space, Unescaped};
 
 // Where text is written: the output's length, a pending space, and whether nothing of this text has been written yet.
 pub struct Pen {
@@ -29,6 +30,33 @@ pub struct Pen {
 pub struct Piece {
     pub code: u32,
     pub next: usize,
+}
+
+// The character above ASCII at i. The text is UTF-8, so the first byte says how many there are.
+fn above_ascii(raw: &[u8], i: usize) -> Piece
+    requires { ⌜ (i < length (now raw)) × (Scalars (chars (drop i (now raw))) × (0x80 ≤ getD (now raw) i 0)) ⌝ }
+    ensures { λ r. ⌜ Unescaped (now (raw .entry)) i r ⌝ }
+{
+    let a = raw[i] as u32;
+    let b = raw[i + 1] as u32 - 0x80;
+    if a < 0xE0 {
+        return Piece {
+            code: (a - 0xC0) * 64 + b,
+            next: i + 2,
+        };
+    }
+    let c = raw[i + 2] as u32 - 0x80;
+    if a < 0xF0 {
+        return Piece {
+            code: ((a - 0xE0) * 64 + b) * 64 + c,
+            next: i + 3,
+        };
+    }
+    let d = raw[i + 3] as u32 - 0x80;
+    Piece {
+        code: (((a - 0xF0) * 64 + b) * 64 + c) * 64 + d,
+        next: i + 4,
+    }
 }
 
 // The character at i, a reference replaced.
@@ -55,12 +83,7 @@ fn unescaped(raw: &[u8], i: usize) -> Piece
             next: i + 1,
         };
     }
-    let c = text::code_at(raw, i);
-    let n = text::width(c);
-    Piece {
-        code: c,
-        next: i + n,
-    }
+    above_ascii(raw, i)
 }
 
 // An ASCII letter or digit, which is neither a space nor escaped anywhere.
@@ -171,6 +194,22 @@ impl Pen {
     }
 }
 
+// Where the ASCII spaces from i on end. After a first space they change nothing.
+fn blanks_end(raw: &[u8], i: usize) -> usize
+    requires { ⌜ i ≤ length (now raw) ⌝ }
+    ensures { λ r. ⌜ (drop r (now (raw .entry)) ≡ drop-while ascii-space (drop i (now (raw .entry)))) × ((i ≤ r) × (r ≤ length (now (raw .entry)))) ⌝ }
+{
+    let mut j = i;
+    while j < raw.len() {
+        let b = raw[j];
+        if (b != b' ') & ((b < 9) | (13 < b)) {
+            return j;
+        }
+        j += 1;
+    }
+    j
+}
+
 // The characters of a text, one after the other.
 fn ink(pen: Pen, out: &mut [u8], raw: &[u8], pre: bool) -> Pen
     requires { ⌜ (pen .len + 2 + 2 * length (now raw) ≤ length (now out)) × Scalars (chars (now raw)) ⌝ }
@@ -188,7 +227,7 @@ fn ink(pen: Pen, out: &mut [u8], raw: &[u8], pre: bool) -> Pen
         let u = unescaped(raw, i);
         if blank(u.code, pre) {
             p = p.pause(out);
-            i = u.next;
+            i = blanks_end(raw, u.next);
             continue;
         }
         p = p.write(out, u.code, pre);

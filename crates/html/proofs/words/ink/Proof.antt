@@ -11,7 +11,7 @@ use Rattle.html.specs.State.{State, new, with-pre, put-all}
 use Rattle.html.specs.Pen.{pen-state, blank, Unescaped}
 use Rattle.text.specs.Utf8.{utf8, chars}
 use Rattle.reference.specs.Unescape.{unescape}
-use Rattle.html.proofs.TextLaws.{Inking, pending-most, some-size, ink-room, ink-pause, ink-write, ink-done, piece, piece-ascii, plain-ascii, plain-not-and, plain-not-blank}
+use Rattle.html.proofs.TextLaws.{Inking, pending-most, some-size, ink-room, ink-pause, ink-blanks, blank-out, ink-write, ink-done, piece, piece-ascii, plain-ascii, plain-not-and, plain-not-blank}
 use Rattle.html.proofs.words.ink.Statement.{statement}
 use Rattle.html.proofs.words.ink.Tie as tie
 use Rattle.html.proofs.words.ink.Reads as reads
@@ -88,23 +88,34 @@ pause-requires c κs =
     let h = refl in
     omega (arith, ink-room raw s (put-all (a .pen .first) (unescape 0 (chars raw)) (pen-state s (a .pen) (now (a .out)))) (a .pen .len) (l .out) (l .p) (l .i) (l .inv .0 s h) u (c .before .before .before .unescaped .ensures), l .inv .1, c .before .before .before .before .before .before .before .before .before .before .before .pre .0)
 
+blanks-end-requires : tie.Need-blanks-end-requires Inv-loop μ-loop
+blanks-end-requires c κs = c .before .before .before .before .unescaped .ensures .bound
+
 loop-less-2 : tie.Need-loop-less-2 Inv-loop μ-loop
 loop-less-2 c =
-    let a = c .before .before .before .before .before .before .before .before .before .before .before .before .args in
-    let l = c .before .before .before .before .before .before .before .before .before .loop in
+    let a = c .before .before .before .before .before .before .before .before .before .before .before .before .before .args in
+    let l = c .before .before .before .before .before .before .before .before .before .before .loop in
     let raw = now (a .raw) in
-    let u = c .before .before .before .before .unescaped .result in
+    let u = c .before .before .before .before .before .unescaped .result in
     let s = with-pre (a .pre) new in
     let h = refl in
-    omega (arith, some-size raw s (put-all (a .pen .first) (unescape 0 (chars raw)) (pen-state s (a .pen) (now (a .out)))) (a .pen .len) (l .out) (l .p) (l .i) (l .inv .0 s h) u (c .before .before .before .before .unescaped .ensures), c .before .before .before .before .unescaped .ensures .size, c .before .before .before .before .unescaped .ensures .bound)
+    omega (arith, some-size raw s (put-all (a .pen .first) (unescape 0 (chars raw)) (pen-state s (a .pen) (now (a .out)))) (a .pen .len) (l .out) (l .p) (l .i) (l .inv .0 s h) u (c .before .before .before .before .before .unescaped .ensures), c .before .before .before .before .before .unescaped .ensures .size, c .before .before .before .before .before .unescaped .ensures .bound, c .blanks-end .ensures .1 .0, c .blanks-end .ensures .1 .1)
 
 loop-again-2 : tie.Need-loop-again-2 Inv-loop μ-loop
 loop-again-2 c =
-    let a = c .before .before .before .before .before .before .before .before .before .before .before .before .args in
-    let l = c .before .before .before .before .before .before .before .before .before .loop in
+    let a = c .before .before .before .before .before .before .before .before .before .before .before .before .before .args in
+    let l = c .before .before .before .before .before .before .before .before .before .before .loop in
     let raw = now (a .raw) in
-    let u = c .before .before .before .before .unescaped .result in
-    (λ s h. ink-pause raw s (put-all (a .pen .first) (unescape 0 (chars raw)) (pen-state s (a .pen) (now (a .out)))) (a .pen .len) (l .out) (l .p) (l .i) (l .inv .0 s h) u (c .before .before .before .before .unescaped .ensures) _ (ap (λ (b : Bool). blank b (u .code)) h ∙ sym (c .before .before .before .blank .ensures) ∙ c .before .before .if2 .taken) (c .pause .ensures .0 s) (c .pause .ensures .1), l .inv .1)
+    let u = c .before .before .before .before .before .unescaped .result in (
+      λ s h.
+          let b = ap (λ (b : Bool). blank b (u .code)) h ∙ sym (c .before .before .before .before .blank .ensures) ∙ c .before .before .before .if2 .taken in
+          let t = put-all (a .pen .first) (unescape 0 (chars raw)) (pen-state s (a .pen) (now (a .out))) in
+          let e = c .before .pause .ensures .0 s in
+          ink-blanks raw s t (a .pen .len) (l .out) (l .p) (c .before .pause .result) (u .next) (c .blanks-end .result)
+          (ink-pause raw s t (a .pen .len) (l .out) (l .p) (l .i) (l .inv .0 s h) u (c .before .before .before .before .before .unescaped .ensures) (c .before .pause .result) b e (c .before .pause .ensures .1))
+          (blank-out (s .pre) (u .code) b) e (c .blanks-end .ensures .0) (c .blanks-end .ensures .1 .0) (c .blanks-end .ensures .1 .1),
+      l .inv .1,
+    )
 
 write-requires : tie.Need-write-requires Inv-loop μ-loop
 write-requires c κs =
@@ -145,25 +156,4 @@ returns c =
     λ s h. ink-done raw s (put-all (a .pen .first) (unescape 0 (chars raw)) (pen-state s (a .pen) (now (a .out)))) (a .pen .len) (l .out) (l .p) (l .i) (l .inv .0 s h) (c .loop-test .left)
 
 pub ink-spec : {M : Type 1} → statement M
-ink-spec =
-    tie.close
-    (tie.spec
-    Inv-loop
-    μ-loop
-    loop-holds
-    shared-slice-read-b
-    plain-requires
-    letter-requires
-    add-i
-    loop-less
-    loop-again
-    unescaped-requires
-    blank-requires
-    pause-requires
-    loop-less-2
-    loop-again-2
-    write-requires
-    loop-less-3
-    loop-again-3
-    same-length
-    returns)
+ink-spec = tie.close (tie.spec Inv-loop μ-loop loop-holds shared-slice-read-b plain-requires letter-requires add-i loop-less loop-again unescaped-requires blank-requires pause-requires blanks-end-requires loop-less-2 loop-again-2 write-requires loop-less-3 loop-again-3 same-length returns)

@@ -4,8 +4,7 @@ use mathlib.Core.Path.{_≡_, refl, sym, ap, _∙_}
 use native.Mathlib.Omega.{arith}
 use denote.Ref.{now}
 use Prim.Native.Nat.{ℕ}
-use Rattle.text.proofs.Laws.{turn-is}
-use Rattle.html.proofs.TextLaws.{piece-left, piece-replaced, replaced-bound, piece-ascii, piece-other}
+use Rattle.html.proofs.TextLaws.{piece-left, piece-replaced, replaced-bound, piece-ascii}
 use borrow.Author.Needs.{needs}
 use Rattle.html.proofs.words.unescaped.Statement.{statement}
 use Rattle.html.proofs.words.unescaped.Tie as tie
@@ -28,19 +27,19 @@ enum-known-c c = search needs
 enum-told : tie.Need-enum-told
 enum-told c = search needs
 
-add-t13 : tie.Need-add-t13
-add-t13 c = search needs
+add-t11 : tie.Need-add-t11
+add-t11 c = search needs
 
 returns : tie.Need-returns
 returns c =
     let a = c .before .before .before .before .before .before .args in
     piece-left (now (a .raw)) (a .i) (c .before .before .before .before .before .before .pre .0) (c .before .before .before .before .before .before .pre .1) (c .before .before .before .if1 .taken) (c .before .before .reference .result) (c .before .before .reference .ensures) (c .enum-told .given .1)
 
-add-t12 : tie.Need-add-t12
-add-t12 c = search needs
+add-t10 : tie.Need-add-t10
+add-t10 c = search needs
 
-add-t14 : tie.Need-add-t14
-add-t14 c =
+add-t12 : tie.Need-add-t12
+add-t12 c =
     let a = c .before .before .before .before .before .before .before .args in
     let b = replaced-bound (now (a .raw)) (a .i) (c .before .before .before .before .before .before .before .pre .0) (c .before .before .before .before .before .before .before .pre .1) (c .before .before .before .before .if1 .taken) (c .before .before .before .reference .result) (c .before .before .before .reference .ensures) (c .before .c .given .0 .0) (c .before .c .given .0 .1 .0) (c .before .c .given .1) in
     omega (arith, b)
@@ -50,52 +49,22 @@ returns-2 c =
     let a = c .before .before .before .before .before .before .before .args in
     piece-replaced (now (a .raw)) (a .i) (c .before .before .before .before .before .before .before .pre .0) (c .before .before .before .before .before .before .before .pre .1) (c .before .before .before .before .if1 .taken) (c .before .before .before .reference .result) (c .before .before .before .reference .ensures) (c .before .c .given .0 .0) (c .before .c .given .0 .1 .0) (c .before .c .given .1)
 
-cast-t15 : tie.Need-cast-t15
-cast-t15 c = search needs
+cast-t13 : tie.Need-cast-t13
+cast-t13 c = search needs
 
-add-t16 : tie.Need-add-t16
-add-t16 c = search needs
+add-t14 : tie.Need-add-t14
+add-t14 c = search needs
 
 returns-3 : tie.Need-returns-3
 returns-3 c =
     let a = c .before .before .before .before .args in
     piece-ascii (now (a .raw)) (a .i) (c .before .before .before .before .pre .0) (c .before .before .before .before .pre .1) (c .if2 .taken) (c .before .if1 .left)
 
-code-at-requires : tie.Need-code-at-requires
-code-at-requires c κs = search needs
-
-width-requires : tie.Need-width-requires
-width-requires c κs = search needs
-
-add-t17 : tie.Need-add-t17
-add-t17 c =
-    let a = c .before .before .before .before .before .before .args in
-    let t = rw (← c .before .code-at .ensures) at (turn-is (now (a .raw)) (a .i) (c .before .before .before .before .before .before .pre .0) .bound) in
-    omega (arith, t, c .width .ensures)
+above-ascii-requires : tie.Need-above-ascii-requires
+above-ascii-requires c κs = (c .before .before .before .before .pre .0, (c .before .before .before .before .pre .1, c .if2 .left))
 
 returns-4 : tie.Need-returns-4
-returns-4 c =
-    let a = c .before .before .before .before .before .before .args in
-    piece-other (now (a .raw)) (a .i) (c .before .before .before .before .before .before .pre .0) (c .before .before .before .before .before .before .pre .1) _ _ (c .before .before .before .if1 .left) (c .before .code-at .ensures) (c .width .ensures)
+returns-4 c = c .above-ascii .ensures
 
 pub unescaped-spec : {M : Type 1} → statement M
-unescaped-spec =
-    tie.close
-    (tie.spec
-    shared-slice-read-b
-    add-reference
-    reference-requires
-    enum-known-c
-    enum-told
-    add-t13
-    returns
-    add-t12
-    add-t14
-    returns-2
-    cast-t15
-    add-t16
-    returns-3
-    code-at-requires
-    width-requires
-    add-t17
-    returns-4)
+unescaped-spec = tie.close (tie.spec shared-slice-read-b add-reference reference-requires enum-known-c enum-told add-t11 returns add-t10 add-t12 returns-2 cast-t13 add-t14 returns-3 above-ascii-requires returns-4)

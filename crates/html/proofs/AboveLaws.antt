@@ -1,0 +1,144 @@
+-- The bytes of a character above ASCII, in a text that is UTF-8, and what the code makes of them.
+-- Assumes nothing.
+use Prim.Native.Nat.{ℕ, zero, suc, _+_, _-_, _*_, _/_, _%_, _≤_, _<_}
+use native.Mathlib.Omega.{arith}
+use native.Mathlib.Nat.{add-zero}
+use mathlib.Core.Path.{_≡_, refl, sym, ap, _∙_, subst}
+use mathlib.Core.Logic.{_⊎_, inl, inr}
+use mathlib.Core.List.{List, [], _∷_, _++_}
+use lib.ListN.{length, getD, take, drop}
+use lib.Seq.{getD-take, getD-append-add, length-take-le}
+use Rattle.text.specs.Utf8.{IsScalar, Scalars, utf8, chars, code-at}
+use Rattle.text.proofs.Utf8.{utf8-1, utf8-2, utf8-3, utf8-4, ranges}
+use Rattle.text.proofs.Laws.{turn-is}
+use Rattle.html.specs.Pen.{Unescaped}
+use Rattle.html.proofs.TextLaws.{piece, piece-other}
+
+scalar-most : (c : ℕ) → IsScalar c → c < 0x110000
+scalar-most c (inl h) = omega arith
+scalar-most c (inr h) = omega (arith, h .1)
+
+-- the character's number, its bytes, and their room
+data Above (s : List ℕ) (i : ℕ) : Type 0 where
+  two : (c : ℕ) → c ≡ code-at s i → 0x80 ≤ c → c < 0x800 → length (utf8 c) ≡ 2 → i + 2 ≤ length s
+      → getD s i 0 ≡ 0xC0 + c / 64 → getD s (i + 1) 0 ≡ 0x80 + c % 64 → Above s i
+  three : (c : ℕ) → c ≡ code-at s i → 0x800 ≤ c → c < 0x10000 → length (utf8 c) ≡ 3 → i + 3 ≤ length s
+      → getD s i 0 ≡ 0xE0 + c / 4096 → getD s (i + 1) 0 ≡ 0x80 + c / 64 % 64 → getD s (i + 2) 0 ≡ 0x80 + c % 64 → Above s i
+  four : (c : ℕ) → c ≡ code-at s i → 0x10000 ≤ c → c < 0x110000 → length (utf8 c) ≡ 4 → i + 4 ≤ length s
+      → getD s i 0 ≡ 0xF0 + c / 262144 → getD s (i + 1) 0 ≡ 0x80 + c / 4096 % 64 → getD s (i + 2) 0 ≡ 0x80 + c / 64 % 64 → getD s (i + 3) 0 ≡ 0x80 + c % 64 → Above s i
+
+module _ (s : List ℕ) (i : ℕ) (l : i < length s) (h : Scalars (chars (drop i s))) (a : 0x80 ≤ getD s i 0) where
+  abbrev code : ℕ
+  code = code-at s i
+
+  -- its bytes are those that stand there
+  byte-is : (k n : ℕ) → length (utf8 code) ≡ n → k < n → getD s (i + k) 0 ≡ getD (utf8 code) k 0
+  byte-is k n e m =
+      let t = turn-is s i l in
+      let z = length-take-le i s (omega arith) in
+      sym (getD-take (i + length (utf8 code)) s (i + k) 0 (omega arith))
+      ∙ ap (λ (x : List ℕ). getD x (i + k) 0) (t .front)
+      ∙ ap (λ (j : ℕ). getD (take i s ++ utf8 code) (j + k) 0) (sym z)
+      ∙ getD-append-add (take i s) (utf8 code) k 0
+
+  first-is : (n : ℕ) → length (utf8 code) ≡ n → 0 < n → getD s i 0 ≡ getD (utf8 code) 0 0
+  first-is n e m = ap (λ (j : ℕ). getD s j 0) (sym (add-zero i)) ∙ byte-is 0 n e m
+
+  room : (n : ℕ) → length (utf8 code) ≡ n → i + n ≤ length s
+  room n e = omega (arith, turn-is s i l .bound)
+
+  above : Above s i
+  above =
+      ranges code
+      (λ m.
+      let u = utf8-1 code m in
+      absurd (omega (arith, first-is 1 (ap length u) (omega arith), ap (λ (x : List ℕ). getD x 0 0) u)))
+      (λ k m.
+      let u = utf8-2 code k m in
+      let e : length (utf8 code) ≡ 2 = ap length u in
+      two code refl k m e (room 2 e) (first-is 2 e (omega arith) ∙ ap (λ (x : List ℕ). getD x 0 0) u) (byte-is 1 2 e (omega arith) ∙ ap (λ (x : List ℕ). getD x 1 0) u))
+      (λ k m.
+      let u = utf8-3 code k m in
+      let e : length (utf8 code) ≡ 3 = ap length u in
+      three code refl k m e (room 3 e) (first-is 3 e (omega arith) ∙ ap (λ (x : List ℕ). getD x 0 0) u) (byte-is 1 3 e (omega arith) ∙ ap (λ (x : List ℕ). getD x 1 0) u)
+      (byte-is 2 3 e (omega arith) ∙ ap (λ (x : List ℕ). getD x 2 0) u))
+      (λ k.
+      let m = scalar-most code (subst Scalars (turn-is s i l .rest) h .0) in
+      let u = utf8-4 code k m in
+      let e : length (utf8 code) ≡ 4 = ap length u in
+      four code refl k m e (room 4 e) (first-is 4 e (omega arith) ∙ ap (λ (x : List ℕ). getD x 0 0) u) (byte-is 1 4 e (omega arith) ∙ ap (λ (x : List ℕ). getD x 1 0) u)
+      (byte-is 2 4 e (omega arith) ∙ ap (λ (x : List ℕ). getD x 2 0) u) (byte-is 3 4 e (omega arith) ∙ ap (λ (x : List ℕ). getD x 3 0) u))
+
+  -- ---- a byte after the first, where the first says that it is there
+  abbrev Tail : ℕ → Type 0
+  Tail k = (i + k < length s) × ((0x80 ≤ getD s (i + k) 0) × (getD s (i + k) 0 < 0xC0))
+
+  pub lead : (0xC2 ≤ getD s i 0) × (getD s i 0 < 0xF5)
+  lead = go above
+    where
+      go : Above s i → (0xC2 ≤ getD s i 0) × (getD s i 0 < 0xF5)
+      go (two c q k m e r x y) = (omega arith, omega arith)
+      go (three c q k m e r x y z) = (omega arith, omega arith)
+      go (four c q k m e r x y z w) = (omega arith, omega arith)
+
+  pub tail-1 : Tail 1
+  tail-1 = go above
+    where
+      go : Above s i → Tail 1
+      go (two c q k m e r x y) = (omega arith, (omega arith, omega arith))
+      go (three c q k m e r x y z) = (omega arith, (omega arith, omega arith))
+      go (four c q k m e r x y z w) = (omega arith, (omega arith, omega arith))
+
+  pub tail-2 : 0xE0 ≤ getD s i 0 → Tail 2
+  tail-2 g = go above
+    where
+      go : Above s i → Tail 2
+      go (two c q k m e r x y) = absurd (omega arith)
+      go (three c q k m e r x y z) = (omega arith, (omega arith, omega arith))
+      go (four c q k m e r x y z w) = (omega arith, (omega arith, omega arith))
+
+  pub tail-3 : 0xF0 ≤ getD s i 0 → Tail 3
+  tail-3 g = go above
+    where
+      go : Above s i → Tail 3
+      go (two c q k m e r x y) = absurd (omega arith)
+      go (three c q k m e r x y z) = absurd (omega arith)
+      go (four c q k m e r x y z w) = (omega arith, (omega arith, omega arith))
+
+  -- ---- the character that they make
+  made : (c n : ℕ) → c ≡ code → length (utf8 code) ≡ n → Unescaped s i (piece c (i + n))
+  made c n q e = piece-other s i l h c n (λ z. omega arith) q (sym e ∙ ap (λ (x : ℕ). length (utf8 x)) (sym q))
+
+  pub above-2 : getD s i 0 < 0xE0 → Unescaped s i (piece ((getD s i 0 - 0xC0) * 64 + (getD s (i + 1) 0 - 0x80)) (i + 2))
+  above-2 g = go above
+    where
+      go : Above s i → Unescaped s i (piece ((getD s i 0 - 0xC0) * 64 + (getD s (i + 1) 0 - 0x80)) (i + 2))
+      go (two c q k m e r x y) = let v : (getD s i 0 - 0xC0) * 64 + (getD s (i + 1) 0 - 0x80) ≡ c = omega arith in made _ 2 (v ∙ q) (rw (← q) e)
+      go (three c q k m e r x y z) = absurd (omega arith)
+      go (four c q k m e r x y z w) = absurd (omega arith)
+
+  pub above-3 : 0xE0 ≤ getD s i 0 → getD s i 0 < 0xF0
+      → Unescaped s i (piece (((getD s i 0 - 0xE0) * 64 + (getD s (i + 1) 0 - 0x80)) * 64 + (getD s (i + 2) 0 - 0x80)) (i + 3))
+  above-3 f g = go above
+    where
+      go : Above s i → Unescaped s i (piece (((getD s i 0 - 0xE0) * 64 + (getD s (i + 1) 0 - 0x80)) * 64 + (getD s (i + 2) 0 - 0x80)) (i + 3))
+      go (two c q k m e r x y) = absurd (omega arith)
+      go (three c q k m e r x y z) =
+          let v : ((getD s i 0 - 0xE0) * 64 + (getD s (i + 1) 0 - 0x80)) * 64 + (getD s (i + 2) 0 - 0x80) ≡ c = omega arith in
+          made _ 3 (v ∙ q) (rw (← q) e)
+      go (four c q k m e r x y z w) = absurd (omega arith)
+
+  pub above-4 : 0xF0 ≤ getD s i 0
+      → Unescaped s i (piece ((((getD s i 0 - 0xF0) * 64 + (getD s (i + 1) 0 - 0x80)) * 64 + (getD s (i + 2) 0 - 0x80)) * 64 + (getD s (i + 3) 0 - 0x80)) (i + 4))
+  above-4 f = go above
+    where
+      go : Above s i → Unescaped s i (piece ((((getD s i 0 - 0xF0) * 64 + (getD s (i + 1) 0 - 0x80)) * 64 + (getD s (i + 2) 0 - 0x80)) * 64 + (getD s (i + 3) 0 - 0x80)) (i + 4))
+      go (two c q k m e r x y) = absurd (omega arith)
+      go (three c q k m e r x y z) = absurd (omega arith)
+      go (four c q k m e r x y z w) =
+          let f1 : c / 4096 ≡ c / 262144 * 64 + c / 4096 % 64 = omega arith in
+          let f2 : c / 64 ≡ c / 4096 * 64 + c / 64 % 64 = omega arith in
+          let f1 : c / 4096 ≡ c / 262144 * 64 + c / 4096 % 64 = omega arith in
+          let f2 : c / 64 ≡ c / 4096 * 64 + c / 64 % 64 = omega arith in
+          let v : (((getD s i 0 - 0xF0) * 64 + (getD s (i + 1) 0 - 0x80)) * 64 + (getD s (i + 2) 0 - 0x80)) * 64 + (getD s (i + 3) 0 - 0x80) ≡ c = omega arith in
+          made _ 4 (v ∙ q) (rw (← q) e)
