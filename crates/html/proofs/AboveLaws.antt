@@ -106,33 +106,36 @@ module _ (s : List ℕ) (i : ℕ) (l : i < length s) (h : Scalars (chars (drop i
       go (four c q k m e r x y z w) = (omega arith, (omega arith, omega arith))
 
   -- ---- the character that they make
-  made : (c n : ℕ) → c ≡ code → length (utf8 code) ≡ n → Unescaped s i (piece c (i + n))
-  made c n q e = piece-other s i l h c n (λ z. omega arith) q (sym e ∙ ap (λ (x : ℕ). length (utf8 x)) (sym q))
+  abbrev pub Made : ℕ → ℕ → Type 0
+  Made c n = Unescaped s i (piece c (i + n)) × (0x80 ≤ c)
 
-  pub above-2 : getD s i 0 < 0xE0 → Unescaped s i (piece ((getD s i 0 - 0xC0) * 64 + (getD s (i + 1) 0 - 0x80)) (i + 2))
+  made : (c n : ℕ) → c ≡ code → length (utf8 code) ≡ n → 0x80 ≤ code → Made c n
+  made c n q e m = (piece-other s i l h c n (λ z. omega arith) q (sym e ∙ ap (λ (x : ℕ). length (utf8 x)) (sym q)), omega arith)
+
+  pub above-2 : getD s i 0 < 0xE0 → Made ((getD s i 0 - 0xC0) * 64 + (getD s (i + 1) 0 - 0x80)) 2
   above-2 g = go above
     where
-      go : Above s i → Unescaped s i (piece ((getD s i 0 - 0xC0) * 64 + (getD s (i + 1) 0 - 0x80)) (i + 2))
-      go (two c q k m e r x y) = let v : (getD s i 0 - 0xC0) * 64 + (getD s (i + 1) 0 - 0x80) ≡ c = omega arith in made _ 2 (v ∙ q) (rw (← q) e)
+      go : Above s i → Made ((getD s i 0 - 0xC0) * 64 + (getD s (i + 1) 0 - 0x80)) 2
+      go (two c q k m e r x y) = let v : (getD s i 0 - 0xC0) * 64 + (getD s (i + 1) 0 - 0x80) ≡ c = omega arith in made _ 2 (v ∙ q) (rw (← q) e) (omega arith)
       go (three c q k m e r x y z) = absurd (omega arith)
       go (four c q k m e r x y z w) = absurd (omega arith)
 
   pub above-3 : 0xE0 ≤ getD s i 0 → getD s i 0 < 0xF0
-      → Unescaped s i (piece (((getD s i 0 - 0xE0) * 64 + (getD s (i + 1) 0 - 0x80)) * 64 + (getD s (i + 2) 0 - 0x80)) (i + 3))
+      → Made (((getD s i 0 - 0xE0) * 64 + (getD s (i + 1) 0 - 0x80)) * 64 + (getD s (i + 2) 0 - 0x80)) 3
   above-3 f g = go above
     where
-      go : Above s i → Unescaped s i (piece (((getD s i 0 - 0xE0) * 64 + (getD s (i + 1) 0 - 0x80)) * 64 + (getD s (i + 2) 0 - 0x80)) (i + 3))
+      go : Above s i → Made (((getD s i 0 - 0xE0) * 64 + (getD s (i + 1) 0 - 0x80)) * 64 + (getD s (i + 2) 0 - 0x80)) 3
       go (two c q k m e r x y) = absurd (omega arith)
       go (three c q k m e r x y z) =
           let v : ((getD s i 0 - 0xE0) * 64 + (getD s (i + 1) 0 - 0x80)) * 64 + (getD s (i + 2) 0 - 0x80) ≡ c = omega arith in
-          made _ 3 (v ∙ q) (rw (← q) e)
+          made _ 3 (v ∙ q) (rw (← q) e) (omega arith)
       go (four c q k m e r x y z w) = absurd (omega arith)
 
   pub above-4 : 0xF0 ≤ getD s i 0
-      → Unescaped s i (piece ((((getD s i 0 - 0xF0) * 64 + (getD s (i + 1) 0 - 0x80)) * 64 + (getD s (i + 2) 0 - 0x80)) * 64 + (getD s (i + 3) 0 - 0x80)) (i + 4))
+      → Made ((((getD s i 0 - 0xF0) * 64 + (getD s (i + 1) 0 - 0x80)) * 64 + (getD s (i + 2) 0 - 0x80)) * 64 + (getD s (i + 3) 0 - 0x80)) 4
   above-4 f = go above
     where
-      go : Above s i → Unescaped s i (piece ((((getD s i 0 - 0xF0) * 64 + (getD s (i + 1) 0 - 0x80)) * 64 + (getD s (i + 2) 0 - 0x80)) * 64 + (getD s (i + 3) 0 - 0x80)) (i + 4))
+      go : Above s i → Made ((((getD s i 0 - 0xF0) * 64 + (getD s (i + 1) 0 - 0x80)) * 64 + (getD s (i + 2) 0 - 0x80)) * 64 + (getD s (i + 3) 0 - 0x80)) 4
       go (two c q k m e r x y) = absurd (omega arith)
       go (three c q k m e r x y z) = absurd (omega arith)
       go (four c q k m e r x y z w) =
@@ -141,4 +144,4 @@ module _ (s : List ℕ) (i : ℕ) (l : i < length s) (h : Scalars (chars (drop i
           let f1 : c / 4096 ≡ c / 262144 * 64 + c / 4096 % 64 = omega arith in
           let f2 : c / 64 ≡ c / 4096 * 64 + c / 64 % 64 = omega arith in
           let v : (((getD s i 0 - 0xF0) * 64 + (getD s (i + 1) 0 - 0x80)) * 64 + (getD s (i + 2) 0 - 0x80)) * 64 + (getD s (i + 3) 0 - 0x80) ≡ c = omega arith in
-          made _ 4 (v ∙ q) (rw (← q) e)
+          made _ 4 (v ∙ q) (rw (← q) e) (omega arith)

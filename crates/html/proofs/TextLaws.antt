@@ -476,6 +476,21 @@ module _ (b : ℕ) (h : is-alphanumeric b ≡ true) where
       let e : escape first b (with-space sp o) ≡ false = sym (escape-other first b (with-space sp o) plain-not-special plain-not-opens (λ q. omega arith)) in
       write-plain first b s o sp (rw e)
 
+-- ---- characters above ASCII
+module _ (c : ℕ) (h : 0x80 ≤ c) where
+  high-not-special : special c ≡ false
+  unfolding special
+  high-not-special = simp (ne-eqb c 92 (omega arith), ne-eqb c 42 (omega arith), ne-eqb c 96 (omega arith), ne-eqb c 91 (omega arith), ne-eqb c 33 (omega arith))
+
+  high-not-opens : opens c ≡ false
+  unfolding opens
+  high-not-opens = simp (ne-eqb c 35 (omega arith), ne-eqb c 45 (omega arith), ne-eqb c 43 (omega arith), ne-eqb c 62 (omega arith), ne-eqb c 124 (omega arith))
+
+  pub high-write : (first : Bool) (s : State) (o : List ℕ) (sp : Bool) → with-out (c ∷ with-space sp o) false s ≡ put first c (spaced (with-out o sp s))
+  high-write first s o sp =
+      let e : escape first c (with-space sp o) ≡ false = sym (escape-other first c (with-space sp o) high-not-special high-not-opens (λ q. omega arith)) in
+      write-plain first c s o sp (rw e)
+
 pub piece-ascii : (s : List ℕ) (i : ℕ) → i < length s → Scalars (chars (drop i s)) → getD s i 0 < 0x80 → (getD s i 0 ≡ 38 → ⊥) → Unescaped s i (piece (getD s i 0) (i + 1))
 piece-ascii s i l h a n =
     let q = advance-ascii s i l a in

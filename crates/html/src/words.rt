@@ -35,7 +35,7 @@ pub struct Piece {
 // The character above ASCII at i. The text is UTF-8, so the first byte says how many there are.
 fn above_ascii(raw: &[u8], i: usize) -> Piece
     requires { ⌜ (i < length (now raw)) × (Scalars (chars (drop i (now raw))) × (0x80 ≤ getD (now raw) i 0)) ⌝ }
-    ensures { λ r. ⌜ Unescaped (now (raw .entry)) i r ⌝ }
+    ensures { λ r. ⌜ Unescaped (now (raw .entry)) i r × (0x80 ≤ r .code) ⌝ }
 {
     let a = raw[i] as u32;
     let b = raw[i + 1] as u32 - 0x80;
@@ -59,9 +59,9 @@ fn above_ascii(raw: &[u8], i: usize) -> Piece
     }
 }
 
-// The character at i, a reference replaced.
+// The ASCII character at i, a reference replaced.
 fn unescaped(raw: &[u8], i: usize) -> Piece
-    requires { ⌜ (i < length (now raw)) × Scalars (chars (drop i (now raw))) ⌝ }
+    requires { ⌜ (i < length (now raw)) × (Scalars (chars (drop i (now raw))) × (getD (now raw) i 0 < 0x80)) ⌝ }
     ensures { λ r. ⌜ Unescaped (now (raw .entry)) i r ⌝ }
 {
     let b = raw[i];
@@ -77,13 +77,10 @@ fn unescaped(raw: &[u8], i: usize) -> Piece
             next: i + 1 + n,
         };
     }
-    if b < 0x80 {
-        return Piece {
-            code: b as u32,
-            next: i + 1,
-        };
+    Piece {
+        code: b as u32,
+        next: i + 1,
     }
-    above_ascii(raw, i)
 }
 
 // An ASCII letter or digit, which is neither a space nor escaped anywhere.
@@ -180,6 +177,20 @@ impl Pen {
         }
     }
 
+    // A character above ASCII that is written: none of them is escaped.
+    fn high(self, out: &mut [u8], c: u32) -> Pen
+        requires { ⌜ (self .len + 1 + length (utf8 c) ≤ length (now out)) × (IsScalar c × (0x80 ≤ c)) ⌝ }
+        ensures { λ r. ⌜ ((s : State) → pen-state s r (now (out .exit)) ≡ state.put (self .first) c (state.spaced (pen-state s self (now (out .entry))))) × (r .first ≡ false) ⌝ }
+    {
+        let n = spaced(out, self.len, self.space);
+        let m = put_char(out, n, c);
+        Pen {
+            len: m,
+            space: false,
+            first: false,
+        }
+    }
+
     // A space: pending, unless nothing is on the line yet.
     fn pause(self, out: &[u8]) -> Pen
         requires { ⌜ self .len ≤ length (now out) ⌝ }
@@ -222,6 +233,16 @@ fn ink(pen: Pen, out: &mut [u8], raw: &[u8], pre: bool) -> Pen
         if plain(b) {
             p = p.letter(out, b);
             i += 1;
+            continue;
+        }
+        if 0x80 <= b {
+            let v = above_ascii(raw, i);
+            i = v.next;
+            if blank(v.code, pre) {
+                p = p.pause(out);
+                continue;
+            }
+            p = p.high(out, v.code);
             continue;
         }
         let u = unescaped(raw, i);

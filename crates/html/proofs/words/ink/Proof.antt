@@ -1,6 +1,5 @@
 -- `ink` meets its contract: what is left of the text makes the same state.
 -- Assumes nothing.
-use borrow.Author.Needs.{needs}
 use mathlib.Core.Path.{_≡_, refl, sym, ap, _∙_}
 use native.Mathlib.Omega.{arith}
 use denote.Ref.{now}
@@ -12,14 +11,18 @@ use Rattle.html.specs.Pen.{pen-state, blank, Unescaped}
 use Rattle.text.specs.Utf8.{utf8, chars}
 use Rattle.reference.specs.Unescape.{unescape}
 use Rattle.html.proofs.TextLaws.{Inking, pending-most, some-size, ink-room, ink-pause, ink-blanks, blank-out, ink-write, ink-done, piece, piece-ascii, plain-ascii, plain-not-and, plain-not-blank}
+use borrow.Author.Needs.{needs}
 use Rattle.html.proofs.words.ink.Statement.{statement}
 use Rattle.html.proofs.words.ink.Tie as tie
 use Rattle.html.proofs.words.ink.Reads as reads
 use Rattle.html.proofs.words.ink.Lts as lts
+use Rattle.html.proofs.words.Pen.high.Reads as high-reads
 use Rattle.html.proofs.words.Pen.letter.Reads as letter-reads
 use Rattle.html.proofs.words.Pen.pause.Reads as pause-reads
 use Rattle.html.proofs.words.Pen.write.Reads as write-reads
+use Rattle.html.proofs.words.above_ascii.Reads as above-ascii-reads
 use Rattle.html.proofs.words.blank.Reads as blank-reads
+use Rattle.html.proofs.words.blanks_end.Reads as blanks-end-reads
 use Rattle.html.proofs.words.plain.Reads as plain-reads
 use Rattle.html.proofs.words.unescaped.Reads as unescaped-reads
 
@@ -50,12 +53,12 @@ letter-requires c κs =
     let u = piece b (l .i + 1) in
     let v : Unescaped raw (l .i) u = piece-ascii raw (l .i) (c .before .before .before .before .loop-test .taken) (l .inv .0 (with-pre (a .pre) new) refl .valid) (plain-ascii b y) (plain-not-and b y) in
     let s = with-pre (a .pre) new in
-    let h = refl in
-    (omega (arith, ink-room raw s (put-all (a .pen .first) (unescape 0 (chars raw)) (pen-state s (a .pen) (now (a .out)))) (a .pen .len) (l .out) (l .p) (l .i) (l .inv .0 s h) u v, some-size raw s (put-all (a .pen .first) (unescape 0 (chars raw)) (pen-state s (a .pen) (now (a .out)))) (a .pen .len) (l .out) (l .p) (l .i) (l .inv .0 s h) u v, l .inv .1, c .before .before .before .before .before .before .before .before .pre .0), y)
+    let t = put-all (a .pen .first) (unescape 0 (chars raw)) (pen-state s (a .pen) (now (a .out))) in
+    let k = l .inv .0 s refl in
+    (omega (arith, ink-room raw s t (a .pen .len) (l .out) (l .p) (l .i) k u v, some-size raw s t (a .pen .len) (l .out) (l .p) (l .i) k u v, l .inv .1, c .before .before .before .before .before .before .before .before .pre .0), y)
 
 add-i : tie.Need-add-i Inv-loop μ-loop
-add-i c =
-    omega (arith, c .before .before .before .before .before .before .before .loop-test .taken, c .before .before .before .before .before .before .before .before .before .before .before .good)
+add-i c = omega (arith, c .before .before .before .before .before .before .before .loop-test .taken, c .before .before .before .before .before .before .before .before .before .before .before .good)
 
 loop-less : tie.Need-loop-less Inv-loop μ-loop
 loop-less c = omega (arith, c .before .before .before .before .before .before .before .loop-test .taken)
@@ -68,82 +71,179 @@ loop-again c =
     let b = getD raw (l .i) 0 in
     let y = sym (c .before .before .before .before .before .plain .ensures) ∙ c .before .before .before .before .if1 .taken in
     let u = piece b (l .i + 1) in
-    let v : Unescaped raw (l .i) u = piece-ascii raw (l .i) (c .before .before .before .before .before .before .before .loop-test .taken) (l .inv .0 (with-pre (a .pre) new) refl .valid) (plain-ascii b y) (plain-not-and b y) in
-    (λ s h. ink-write raw s (put-all (a .pen .first) (unescape 0 (chars raw)) (pen-state s (a .pen) (now (a .out)))) (a .pen .len) (l .out) (l .p) (l .i) (l .inv .0 s h) u v _ _ (plain-not-blank b y (s .pre)) (c .before .before .letter .ensures .0 s) (c .before .before .letter .ensures .1), search needs)
+    let v : Unescaped raw (l .i) u = piece-ascii raw (l .i) (c .before .before .before .before .before .before .before .loop-test .taken) (l .inv .0 (with-pre (a .pre) new) refl .valid) (plain-ascii b y) (plain-not-and b y) in (
+      λ s h.
+          let t = put-all (a .pen .first) (unescape 0 (chars raw)) (pen-state s (a .pen) (now (a .out))) in
+          ink-write raw s t (a .pen .len) (l .out) (l .p) (l .i) (l .inv .0 s h) u v (c .before .before .letter .result) _ (plain-not-blank b y (s .pre)) (c .before .before .letter .ensures .0 s) (c .before .before .letter .ensures .1),
+      search needs,
+    )
 
-unescaped-requires : tie.Need-unescaped-requires Inv-loop μ-loop
-unescaped-requires c κs =
-    (c .before .before .before .loop-test .taken, c .before .before .before .before .loop .inv .0 (with-pre (c .before .before .before .before .before .before .before .args .pre) new) refl .valid)
+above-ascii-requires : tie.Need-above-ascii-requires Inv-loop μ-loop
+above-ascii-requires c κs = (c .before .before .before .before .loop-test .taken, (c .before .before .before .before .before .loop .inv .0 (with-pre (c .before .before .before .before .before .before .before .before .args .pre) new) refl .valid, c .if2 .taken))
 
 blank-requires : tie.Need-blank-requires Inv-loop μ-loop
 blank-requires c κs = search needs
 
 pause-requires : tie.Need-pause-requires Inv-loop μ-loop
 pause-requires c κs =
-    let a = c .before .before .before .before .before .before .before .before .before .before .before .args in
-    let l = c .before .before .before .before .before .before .before .before .loop in
+    let a = c .before .before .before .before .before .before .before .before .before .before .before .before .args in
+    let l = c .before .before .before .before .before .before .before .before .before .loop in
     let raw = now (a .raw) in
-    let u = c .before .before .before .unescaped .result in
+    let u = c .before .before .before .above-ascii .result in
+    let v = c .before .before .before .above-ascii .ensures .0 in
     let s = with-pre (a .pre) new in
-    let h = refl in
-    omega (arith, ink-room raw s (put-all (a .pen .first) (unescape 0 (chars raw)) (pen-state s (a .pen) (now (a .out)))) (a .pen .len) (l .out) (l .p) (l .i) (l .inv .0 s h) u (c .before .before .before .unescaped .ensures), l .inv .1, c .before .before .before .before .before .before .before .before .before .before .before .pre .0)
-
-blanks-end-requires : tie.Need-blanks-end-requires Inv-loop μ-loop
-blanks-end-requires c κs = c .before .before .before .before .unescaped .ensures .bound
+    let t = put-all (a .pen .first) (unescape 0 (chars raw)) (pen-state s (a .pen) (now (a .out))) in
+    let k = l .inv .0 s refl in
+    omega (arith, ink-room raw s t (a .pen .len) (l .out) (l .p) (l .i) k u v, some-size raw s t (a .pen .len) (l .out) (l .p) (l .i) k u v, l .inv .1, c .before .before .before .before .before .before .before .before .before .before .before .before .pre .0)
 
 loop-less-2 : tie.Need-loop-less-2 Inv-loop μ-loop
 loop-less-2 c =
     let a = c .before .before .before .before .before .before .before .before .before .before .before .before .before .args in
     let l = c .before .before .before .before .before .before .before .before .before .before .loop in
     let raw = now (a .raw) in
-    let u = c .before .before .before .before .before .unescaped .result in
+    let u = c .before .before .before .before .above-ascii .result in
+    let v = c .before .before .before .before .above-ascii .ensures .0 in
     let s = with-pre (a .pre) new in
-    let h = refl in
-    omega (arith, some-size raw s (put-all (a .pen .first) (unescape 0 (chars raw)) (pen-state s (a .pen) (now (a .out)))) (a .pen .len) (l .out) (l .p) (l .i) (l .inv .0 s h) u (c .before .before .before .before .before .unescaped .ensures), c .before .before .before .before .before .unescaped .ensures .size, c .before .before .before .before .before .unescaped .ensures .bound, c .blanks-end .ensures .1 .0, c .blanks-end .ensures .1 .1)
+    let t = put-all (a .pen .first) (unescape 0 (chars raw)) (pen-state s (a .pen) (now (a .out))) in
+    let k = l .inv .0 s refl in
+    omega (arith, some-size raw s t (a .pen .len) (l .out) (l .p) (l .i) k u v, v .size, v .bound)
 
 loop-again-2 : tie.Need-loop-again-2 Inv-loop μ-loop
 loop-again-2 c =
     let a = c .before .before .before .before .before .before .before .before .before .before .before .before .before .args in
     let l = c .before .before .before .before .before .before .before .before .before .before .loop in
     let raw = now (a .raw) in
-    let u = c .before .before .before .before .before .unescaped .result in (
+    let u = c .before .before .before .before .above-ascii .result in
+    let v = c .before .before .before .before .above-ascii .ensures .0 in (
       λ s h.
-          let b = ap (λ (b : Bool). blank b (u .code)) h ∙ sym (c .before .before .before .before .blank .ensures) ∙ c .before .before .before .if2 .taken in
           let t = put-all (a .pen .first) (unescape 0 (chars raw)) (pen-state s (a .pen) (now (a .out))) in
-          let e = c .before .pause .ensures .0 s in
-          ink-blanks raw s t (a .pen .len) (l .out) (l .p) (c .before .pause .result) (u .next) (c .blanks-end .result)
-          (ink-pause raw s t (a .pen .len) (l .out) (l .p) (l .i) (l .inv .0 s h) u (c .before .before .before .before .before .unescaped .ensures) (c .before .pause .result) b e (c .before .pause .ensures .1))
+          ink-pause raw s t (a .pen .len) (l .out) (l .p) (l .i) (l .inv .0 s h) u v (c .pause .result) (ap (λ (b : Bool). blank b (u .code)) h ∙ sym (c .before .before .before .blank .ensures) ∙ c .before .before .if3 .taken) (c .pause .ensures .0 s) (c .pause .ensures .1),
+      l .inv .1,
+    )
+
+high-requires : tie.Need-high-requires Inv-loop μ-loop
+high-requires c κs =
+    let a = c .before .before .before .before .before .before .before .before .before .before .before .before .args in
+    let l = c .before .before .before .before .before .before .before .before .before .loop in
+    let raw = now (a .raw) in
+    let u = c .before .before .before .above-ascii .result in
+    let v = c .before .before .before .above-ascii .ensures .0 in
+    let s = with-pre (a .pre) new in
+    let t = put-all (a .pen .first) (unescape 0 (chars raw)) (pen-state s (a .pen) (now (a .out))) in
+    let k = l .inv .0 s refl in
+    (omega (arith, ink-room raw s t (a .pen .len) (l .out) (l .p) (l .i) k u v, some-size raw s t (a .pen .len) (l .out) (l .p) (l .i) k u v, l .inv .1, c .before .before .before .before .before .before .before .before .before .before .before .before .pre .0), (v .scalar, c .before .before .before .above-ascii .ensures .1))
+
+loop-less-3 : tie.Need-loop-less-3 Inv-loop μ-loop
+loop-less-3 c =
+    let a = c .before .before .before .before .before .before .before .before .before .before .before .before .before .before .before .args in
+    let l = c .before .before .before .before .before .before .before .before .before .before .before .before .loop in
+    let raw = now (a .raw) in
+    let u = c .before .before .before .before .before .before .above-ascii .result in
+    let v = c .before .before .before .before .before .before .above-ascii .ensures .0 in
+    let s = with-pre (a .pre) new in
+    let t = put-all (a .pen .first) (unescape 0 (chars raw)) (pen-state s (a .pen) (now (a .out))) in
+    let k = l .inv .0 s refl in
+    omega (arith, some-size raw s t (a .pen .len) (l .out) (l .p) (l .i) k u v, v .size, v .bound)
+
+loop-again-3 : tie.Need-loop-again-3 Inv-loop μ-loop
+loop-again-3 c =
+    let a = c .before .before .before .before .before .before .before .before .before .before .before .before .before .before .before .args in
+    let l = c .before .before .before .before .before .before .before .before .before .before .before .before .loop in
+    let raw = now (a .raw) in
+    let u = c .before .before .before .before .before .before .above-ascii .result in
+    let v = c .before .before .before .before .before .before .above-ascii .ensures .0 in (
+      λ s h.
+          let t = put-all (a .pen .first) (unescape 0 (chars raw)) (pen-state s (a .pen) (now (a .out))) in
+          ink-write raw s t (a .pen .len) (l .out) (l .p) (l .i) (l .inv .0 s h) u v (c .before .before .high .result) _ (ap (λ (b : Bool). blank b (u .code)) h ∙ sym (c .before .before .before .before .before .blank .ensures) ∙ c .before .before .before .before .if3 .left) (c .before .before .high .ensures .0 s) (c .before .before .high .ensures .1),
+      search needs,
+    )
+
+unescaped-requires : tie.Need-unescaped-requires Inv-loop μ-loop
+unescaped-requires c κs = (c .before .before .before .before .loop-test .taken, (c .before .before .before .before .before .loop .inv .0 (with-pre (c .before .before .before .before .before .before .before .before .args .pre) new) refl .valid, c .if2 .left))
+
+blank-requires-2 : tie.Need-blank-requires-2 Inv-loop μ-loop
+blank-requires-2 c κs = search needs
+
+pause-requires-2 : tie.Need-pause-requires-2 Inv-loop μ-loop
+pause-requires-2 c κs =
+    let a = c .before .before .before .before .before .before .before .before .before .before .before .before .args in
+    let l = c .before .before .before .before .before .before .before .before .before .loop in
+    let raw = now (a .raw) in
+    let u = c .before .before .before .unescaped .result in
+    let v = c .before .before .before .unescaped .ensures in
+    let s = with-pre (a .pre) new in
+    let t = put-all (a .pen .first) (unescape 0 (chars raw)) (pen-state s (a .pen) (now (a .out))) in
+    let k = l .inv .0 s refl in
+    omega (arith, ink-room raw s t (a .pen .len) (l .out) (l .p) (l .i) k u v, some-size raw s t (a .pen .len) (l .out) (l .p) (l .i) k u v, l .inv .1, c .before .before .before .before .before .before .before .before .before .before .before .before .pre .0)
+
+blanks-end-requires : tie.Need-blanks-end-requires Inv-loop μ-loop
+blanks-end-requires c κs = c .before .before .before .before .unescaped .ensures .bound
+
+loop-less-4 : tie.Need-loop-less-4 Inv-loop μ-loop
+loop-less-4 c =
+    let a = c .before .before .before .before .before .before .before .before .before .before .before .before .before .before .args in
+    let l = c .before .before .before .before .before .before .before .before .before .before .before .loop in
+    let raw = now (a .raw) in
+    let u = c .before .before .before .before .before .unescaped .result in
+    let v = c .before .before .before .before .before .unescaped .ensures in
+    let s = with-pre (a .pre) new in
+    let t = put-all (a .pen .first) (unescape 0 (chars raw)) (pen-state s (a .pen) (now (a .out))) in
+    let k = l .inv .0 s refl in
+    omega (arith, some-size raw s t (a .pen .len) (l .out) (l .p) (l .i) k u v, v .size, v .bound, c .blanks-end .ensures .1 .0, c .blanks-end .ensures .1 .1)
+
+loop-again-4 : tie.Need-loop-again-4 Inv-loop μ-loop
+loop-again-4 c =
+    let a = c .before .before .before .before .before .before .before .before .before .before .before .before .before .before .args in
+    let l = c .before .before .before .before .before .before .before .before .before .before .before .loop in
+    let raw = now (a .raw) in
+    let u = c .before .before .before .before .before .unescaped .result in
+    let v = c .before .before .before .before .before .unescaped .ensures in (
+      λ s h.
+          let t = put-all (a .pen .first) (unescape 0 (chars raw)) (pen-state s (a .pen) (now (a .out))) in
+          let b = ap (λ (b : Bool). blank b (u .code)) h ∙ sym (c .before .before .before .before .blank2 .ensures) ∙ c .before .before .before .if4 .taken in
+          let e = c .before .pause2 .ensures .0 s in
+          ink-blanks raw s t (a .pen .len) (l .out) (l .p) (c .before .pause2 .result) (u .next) (c .blanks-end .result)
+          (ink-pause raw s t (a .pen .len) (l .out) (l .p) (l .i) (l .inv .0 s h) u v (c .before .pause2 .result) b e (c .before .pause2 .ensures .1))
           (blank-out (s .pre) (u .code) b) e (c .blanks-end .ensures .0) (c .blanks-end .ensures .1 .0) (c .blanks-end .ensures .1 .1),
       l .inv .1,
     )
 
 write-requires : tie.Need-write-requires Inv-loop μ-loop
 write-requires c κs =
-    let a = c .before .before .before .before .before .before .before .before .before .before .before .args in
-    let l = c .before .before .before .before .before .before .before .before .loop in
+    let a = c .before .before .before .before .before .before .before .before .before .before .before .before .args in
+    let l = c .before .before .before .before .before .before .before .before .before .loop in
     let raw = now (a .raw) in
     let u = c .before .before .before .unescaped .result in
+    let v = c .before .before .before .unescaped .ensures in
     let s = with-pre (a .pre) new in
-    let h = refl in
-    (omega (arith, ink-room raw s (put-all (a .pen .first) (unescape 0 (chars raw)) (pen-state s (a .pen) (now (a .out)))) (a .pen .len) (l .out) (l .p) (l .i) (l .inv .0 s h) u (c .before .before .before .unescaped .ensures), l .inv .1, c .before .before .before .before .before .before .before .before .before .before .before .pre .0), c .before .before .before .unescaped .ensures .scalar)
+    let t = put-all (a .pen .first) (unescape 0 (chars raw)) (pen-state s (a .pen) (now (a .out))) in
+    let k = l .inv .0 s refl in
+    (omega (arith, ink-room raw s t (a .pen .len) (l .out) (l .p) (l .i) k u v, some-size raw s t (a .pen .len) (l .out) (l .p) (l .i) k u v, l .inv .1, c .before .before .before .before .before .before .before .before .before .before .before .before .pre .0), v .scalar)
 
-loop-less-3 : tie.Need-loop-less-3 Inv-loop μ-loop
-loop-less-3 c =
-    let a = c .before .before .before .before .before .before .before .before .before .before .before .before .before .before .args in
-    let l = c .before .before .before .before .before .before .before .before .before .before .before .loop in
+loop-less-5 : tie.Need-loop-less-5 Inv-loop μ-loop
+loop-less-5 c =
+    let a = c .before .before .before .before .before .before .before .before .before .before .before .before .before .before .before .args in
+    let l = c .before .before .before .before .before .before .before .before .before .before .before .before .loop in
     let raw = now (a .raw) in
     let u = c .before .before .before .before .before .before .unescaped .result in
+    let v = c .before .before .before .before .before .before .unescaped .ensures in
     let s = with-pre (a .pre) new in
-    let h = refl in
-    omega (arith, some-size raw s (put-all (a .pen .first) (unescape 0 (chars raw)) (pen-state s (a .pen) (now (a .out)))) (a .pen .len) (l .out) (l .p) (l .i) (l .inv .0 s h) u (c .before .before .before .before .before .before .unescaped .ensures), c .before .before .before .before .before .before .unescaped .ensures .size, c .before .before .before .before .before .before .unescaped .ensures .bound)
+    let t = put-all (a .pen .first) (unescape 0 (chars raw)) (pen-state s (a .pen) (now (a .out))) in
+    let k = l .inv .0 s refl in
+    omega (arith, some-size raw s t (a .pen .len) (l .out) (l .p) (l .i) k u v, v .size, v .bound)
 
-loop-again-3 : tie.Need-loop-again-3 Inv-loop μ-loop
-loop-again-3 c =
-    let a = c .before .before .before .before .before .before .before .before .before .before .before .before .before .before .args in
-    let l = c .before .before .before .before .before .before .before .before .before .before .before .loop in
+loop-again-5 : tie.Need-loop-again-5 Inv-loop μ-loop
+loop-again-5 c =
+    let a = c .before .before .before .before .before .before .before .before .before .before .before .before .before .before .before .args in
+    let l = c .before .before .before .before .before .before .before .before .before .before .before .before .loop in
     let raw = now (a .raw) in
     let u = c .before .before .before .before .before .before .unescaped .result in
-    (λ s h. ink-write raw s (put-all (a .pen .first) (unescape 0 (chars raw)) (pen-state s (a .pen) (now (a .out)))) (a .pen .len) (l .out) (l .p) (l .i) (l .inv .0 s h) u (c .before .before .before .before .before .before .unescaped .ensures) _ _ (ap (λ (b : Bool). blank b (u .code)) h ∙ sym (c .before .before .before .before .before .blank .ensures) ∙ c .before .before .before .before .if2 .left) (c .before .before .write .ensures .0 s h) (c .before .before .write .ensures .1), search needs)
+    let v = c .before .before .before .before .before .before .unescaped .ensures in (
+      λ s h.
+          let t = put-all (a .pen .first) (unescape 0 (chars raw)) (pen-state s (a .pen) (now (a .out))) in
+          ink-write raw s t (a .pen .len) (l .out) (l .p) (l .i) (l .inv .0 s h) u v (c .before .before .write .result) _ (ap (λ (b : Bool). blank b (u .code)) h ∙ sym (c .before .before .before .before .before .blank2 .ensures) ∙ c .before .before .before .before .if4 .left) (c .before .before .write .ensures .0 s h) (c .before .before .write .ensures .1),
+      search needs,
+    )
 
 same-length : tie.Need-same-length Inv-loop μ-loop
 same-length c = search needs
@@ -153,7 +253,9 @@ returns c =
     let a = c .before .before .before .before .args in
     let l = c .before .loop in
     let raw = now (a .raw) in
-    λ s h. ink-done raw s (put-all (a .pen .first) (unescape 0 (chars raw)) (pen-state s (a .pen) (now (a .out)))) (a .pen .len) (l .out) (l .p) (l .i) (l .inv .0 s h) (c .loop-test .left)
+    λ s h.
+    let t = put-all (a .pen .first) (unescape 0 (chars raw)) (pen-state s (a .pen) (now (a .out))) in
+    ink-done raw s t (a .pen .len) (l .out) (l .p) (l .i) (l .inv .0 s h) (c .loop-test .left)
 
 pub ink-spec : {M : Type 1} → statement M
-ink-spec = tie.close (tie.spec Inv-loop μ-loop loop-holds shared-slice-read-b plain-requires letter-requires add-i loop-less loop-again unescaped-requires blank-requires pause-requires blanks-end-requires loop-less-2 loop-again-2 write-requires loop-less-3 loop-again-3 same-length returns)
+ink-spec = tie.close (tie.spec Inv-loop μ-loop loop-holds shared-slice-read-b plain-requires letter-requires add-i loop-less loop-again above-ascii-requires blank-requires pause-requires loop-less-2 loop-again-2 high-requires loop-less-3 loop-again-3 unescaped-requires blank-requires-2 pause-requires-2 blanks-end-requires loop-less-4 loop-again-4 write-requires loop-less-5 loop-again-5 same-length returns)
