@@ -230,11 +230,6 @@ fn ink(pen: Pen, out: &mut [u8], raw: &[u8], pre: bool) -> Pen
     let mut i = 0;
     while i < raw.len() {
         let b = raw[i];
-        if plain(b) {
-            p = p.letter(out, b);
-            i += 1;
-            continue;
-        }
         if 0x80 <= b {
             let v = above_ascii(raw, i);
             i = v.next;
@@ -243,6 +238,11 @@ fn ink(pen: Pen, out: &mut [u8], raw: &[u8], pre: bool) -> Pen
                 continue;
             }
             p = p.high(out, v.code);
+            continue;
+        }
+        if plain(b) {
+            p = p.letter(out, b);
+            i += 1;
             continue;
         }
         let u = unescaped(raw, i);

@@ -40,69 +40,68 @@ loop-holds c =
 shared-slice-read-b : tie.Need-shared-slice-read-b Inv-loop μ-loop
 shared-slice-read-b c = c .before .loop-test .taken
 
-plain-requires : tie.Need-plain-requires Inv-loop μ-loop
-plain-requires c κs = search needs
-
-letter-requires : tie.Need-letter-requires Inv-loop μ-loop
-letter-requires c κs =
-    let a = c .before .before .before .before .before .before .before .before .args in
-    let l = c .before .before .before .before .before .loop in
-    let raw = now (a .raw) in
-    let b = getD raw (l .i) 0 in
-    let y = sym (c .before .before .plain .ensures) ∙ c .before .if1 .taken in
-    let u = piece b (l .i + 1) in
-    let v : Unescaped raw (l .i) u = piece-ascii raw (l .i) (c .before .before .before .before .loop-test .taken) (l .inv .0 (with-pre (a .pre) new) refl .valid) (plain-ascii b y) (plain-not-and b y) in
-    let s = with-pre (a .pre) new in
-    let t = put-all (a .pen .first) (unescape 0 (chars raw)) (pen-state s (a .pen) (now (a .out))) in
-    let k = l .inv .0 s refl in
-    (omega (arith, ink-room raw s t (a .pen .len) (l .out) (l .p) (l .i) k u v, some-size raw s t (a .pen .len) (l .out) (l .p) (l .i) k u v, l .inv .1, c .before .before .before .before .before .before .before .before .pre .0), y)
-
-add-i : tie.Need-add-i Inv-loop μ-loop
-add-i c = omega (arith, c .before .before .before .before .before .before .before .loop-test .taken, c .before .before .before .before .before .before .before .before .before .before .before .good)
-
-loop-less : tie.Need-loop-less Inv-loop μ-loop
-loop-less c = omega (arith, c .before .before .before .before .before .before .before .loop-test .taken)
-
-loop-again : tie.Need-loop-again Inv-loop μ-loop
-loop-again c =
-    let a = c .before .before .before .before .before .before .before .before .before .before .before .args in
-    let l = c .before .before .before .before .before .before .before .before .loop in
-    let raw = now (a .raw) in
-    let b = getD raw (l .i) 0 in
-    let y = sym (c .before .before .before .before .before .plain .ensures) ∙ c .before .before .before .before .if1 .taken in
-    let u = piece b (l .i + 1) in
-    let v : Unescaped raw (l .i) u = piece-ascii raw (l .i) (c .before .before .before .before .before .before .before .loop-test .taken) (l .inv .0 (with-pre (a .pre) new) refl .valid) (plain-ascii b y) (plain-not-and b y) in (
-      λ s h.
-          let t = put-all (a .pen .first) (unescape 0 (chars raw)) (pen-state s (a .pen) (now (a .out))) in
-          ink-write raw s t (a .pen .len) (l .out) (l .p) (l .i) (l .inv .0 s h) u v (c .before .before .letter .result) _ (plain-not-blank b y (s .pre)) (c .before .before .letter .ensures .0 s) (c .before .before .letter .ensures .1),
-      search needs,
-    )
-
 above-ascii-requires : tie.Need-above-ascii-requires Inv-loop μ-loop
-above-ascii-requires c κs = (c .before .before .before .before .loop-test .taken, (c .before .before .before .before .before .loop .inv .0 (with-pre (c .before .before .before .before .before .before .before .before .args .pre) new) refl .valid, c .if2 .taken))
+above-ascii-requires c κs = (c .before .before .loop-test .taken, (c .before .before .before .loop .inv .0 (with-pre (c .before .before .before .before .before .before .args .pre) new) refl .valid, c .if1 .taken))
 
 blank-requires : tie.Need-blank-requires Inv-loop μ-loop
 blank-requires c κs = search needs
 
 pause-requires : tie.Need-pause-requires Inv-loop μ-loop
 pause-requires c κs =
-    let a = c .before .before .before .before .before .before .before .before .before .before .before .before .args in
-    let l = c .before .before .before .before .before .before .before .before .before .loop in
+    let a = c .before .before .before .before .before .before .before .before .before .before .args in
+    let l = c .before .before .before .before .before .before .before .loop in
     let raw = now (a .raw) in
     let u = c .before .before .before .above-ascii .result in
     let v = c .before .before .before .above-ascii .ensures .0 in
     let s = with-pre (a .pre) new in
     let t = put-all (a .pen .first) (unescape 0 (chars raw)) (pen-state s (a .pen) (now (a .out))) in
     let k = l .inv .0 s refl in
-    omega (arith, ink-room raw s t (a .pen .len) (l .out) (l .p) (l .i) k u v, some-size raw s t (a .pen .len) (l .out) (l .p) (l .i) k u v, l .inv .1, c .before .before .before .before .before .before .before .before .before .before .before .before .pre .0)
+    omega (arith, ink-room raw s t (a .pen .len) (l .out) (l .p) (l .i) k u v, some-size raw s t (a .pen .len) (l .out) (l .p) (l .i) k u v, l .inv .1, c .before .before .before .before .before .before .before .before .before .before .pre .0)
+
+loop-less : tie.Need-loop-less Inv-loop μ-loop
+loop-less c =
+    let a = c .before .before .before .before .before .before .before .before .before .before .before .args in
+    let l = c .before .before .before .before .before .before .before .before .loop in
+    let raw = now (a .raw) in
+    let u = c .before .before .before .before .above-ascii .result in
+    let v = c .before .before .before .before .above-ascii .ensures .0 in
+    let s = with-pre (a .pre) new in
+    let t = put-all (a .pen .first) (unescape 0 (chars raw)) (pen-state s (a .pen) (now (a .out))) in
+    let k = l .inv .0 s refl in
+    omega (arith, some-size raw s t (a .pen .len) (l .out) (l .p) (l .i) k u v, v .size, v .bound)
+
+loop-again : tie.Need-loop-again Inv-loop μ-loop
+loop-again c =
+    let a = c .before .before .before .before .before .before .before .before .before .before .before .args in
+    let l = c .before .before .before .before .before .before .before .before .loop in
+    let raw = now (a .raw) in
+    let u = c .before .before .before .before .above-ascii .result in
+    let v = c .before .before .before .before .above-ascii .ensures .0 in (
+      λ s h.
+          let t = put-all (a .pen .first) (unescape 0 (chars raw)) (pen-state s (a .pen) (now (a .out))) in
+          ink-pause raw s t (a .pen .len) (l .out) (l .p) (l .i) (l .inv .0 s h) u v (c .pause .result) (ap (λ (b : Bool). blank b (u .code)) h ∙ sym (c .before .before .before .blank .ensures) ∙ c .before .before .if2 .taken) (c .pause .ensures .0 s) (c .pause .ensures .1),
+      l .inv .1,
+    )
+
+high-requires : tie.Need-high-requires Inv-loop μ-loop
+high-requires c κs =
+    let a = c .before .before .before .before .before .before .before .before .before .before .args in
+    let l = c .before .before .before .before .before .before .before .loop in
+    let raw = now (a .raw) in
+    let u = c .before .before .before .above-ascii .result in
+    let v = c .before .before .before .above-ascii .ensures .0 in
+    let s = with-pre (a .pre) new in
+    let t = put-all (a .pen .first) (unescape 0 (chars raw)) (pen-state s (a .pen) (now (a .out))) in
+    let k = l .inv .0 s refl in
+    (omega (arith, ink-room raw s t (a .pen .len) (l .out) (l .p) (l .i) k u v, some-size raw s t (a .pen .len) (l .out) (l .p) (l .i) k u v, l .inv .1, c .before .before .before .before .before .before .before .before .before .before .pre .0), (v .scalar, c .before .before .before .above-ascii .ensures .1))
 
 loop-less-2 : tie.Need-loop-less-2 Inv-loop μ-loop
 loop-less-2 c =
     let a = c .before .before .before .before .before .before .before .before .before .before .before .before .before .args in
     let l = c .before .before .before .before .before .before .before .before .before .before .loop in
     let raw = now (a .raw) in
-    let u = c .before .before .before .before .above-ascii .result in
-    let v = c .before .before .before .before .above-ascii .ensures .0 in
+    let u = c .before .before .before .before .before .before .above-ascii .result in
+    let v = c .before .before .before .before .before .before .above-ascii .ensures .0 in
     let s = with-pre (a .pre) new in
     let t = put-all (a .pen .first) (unescape 0 (chars raw)) (pen-state s (a .pen) (now (a .out))) in
     let k = l .inv .0 s refl in
@@ -113,53 +112,54 @@ loop-again-2 c =
     let a = c .before .before .before .before .before .before .before .before .before .before .before .before .before .args in
     let l = c .before .before .before .before .before .before .before .before .before .before .loop in
     let raw = now (a .raw) in
-    let u = c .before .before .before .before .above-ascii .result in
-    let v = c .before .before .before .before .above-ascii .ensures .0 in (
-      λ s h.
-          let t = put-all (a .pen .first) (unescape 0 (chars raw)) (pen-state s (a .pen) (now (a .out))) in
-          ink-pause raw s t (a .pen .len) (l .out) (l .p) (l .i) (l .inv .0 s h) u v (c .pause .result) (ap (λ (b : Bool). blank b (u .code)) h ∙ sym (c .before .before .before .blank .ensures) ∙ c .before .before .if3 .taken) (c .pause .ensures .0 s) (c .pause .ensures .1),
-      l .inv .1,
-    )
-
-high-requires : tie.Need-high-requires Inv-loop μ-loop
-high-requires c κs =
-    let a = c .before .before .before .before .before .before .before .before .before .before .before .before .args in
-    let l = c .before .before .before .before .before .before .before .before .before .loop in
-    let raw = now (a .raw) in
-    let u = c .before .before .before .above-ascii .result in
-    let v = c .before .before .before .above-ascii .ensures .0 in
-    let s = with-pre (a .pre) new in
-    let t = put-all (a .pen .first) (unescape 0 (chars raw)) (pen-state s (a .pen) (now (a .out))) in
-    let k = l .inv .0 s refl in
-    (omega (arith, ink-room raw s t (a .pen .len) (l .out) (l .p) (l .i) k u v, some-size raw s t (a .pen .len) (l .out) (l .p) (l .i) k u v, l .inv .1, c .before .before .before .before .before .before .before .before .before .before .before .before .pre .0), (v .scalar, c .before .before .before .above-ascii .ensures .1))
-
-loop-less-3 : tie.Need-loop-less-3 Inv-loop μ-loop
-loop-less-3 c =
-    let a = c .before .before .before .before .before .before .before .before .before .before .before .before .before .before .before .args in
-    let l = c .before .before .before .before .before .before .before .before .before .before .before .before .loop in
-    let raw = now (a .raw) in
-    let u = c .before .before .before .before .before .before .above-ascii .result in
-    let v = c .before .before .before .before .before .before .above-ascii .ensures .0 in
-    let s = with-pre (a .pre) new in
-    let t = put-all (a .pen .first) (unescape 0 (chars raw)) (pen-state s (a .pen) (now (a .out))) in
-    let k = l .inv .0 s refl in
-    omega (arith, some-size raw s t (a .pen .len) (l .out) (l .p) (l .i) k u v, v .size, v .bound)
-
-loop-again-3 : tie.Need-loop-again-3 Inv-loop μ-loop
-loop-again-3 c =
-    let a = c .before .before .before .before .before .before .before .before .before .before .before .before .before .before .before .args in
-    let l = c .before .before .before .before .before .before .before .before .before .before .before .before .loop in
-    let raw = now (a .raw) in
     let u = c .before .before .before .before .before .before .above-ascii .result in
     let v = c .before .before .before .before .before .before .above-ascii .ensures .0 in (
       λ s h.
           let t = put-all (a .pen .first) (unescape 0 (chars raw)) (pen-state s (a .pen) (now (a .out))) in
-          ink-write raw s t (a .pen .len) (l .out) (l .p) (l .i) (l .inv .0 s h) u v (c .before .before .high .result) _ (ap (λ (b : Bool). blank b (u .code)) h ∙ sym (c .before .before .before .before .before .blank .ensures) ∙ c .before .before .before .before .if3 .left) (c .before .before .high .ensures .0 s) (c .before .before .high .ensures .1),
+          ink-write raw s t (a .pen .len) (l .out) (l .p) (l .i) (l .inv .0 s h) u v (c .before .before .high .result) _ (ap (λ (b : Bool). blank b (u .code)) h ∙ sym (c .before .before .before .before .before .blank .ensures) ∙ c .before .before .before .before .if2 .left) (c .before .before .high .ensures .0 s) (c .before .before .high .ensures .1),
+      search needs,
+    )
+
+plain-requires : tie.Need-plain-requires Inv-loop μ-loop
+plain-requires c κs = search needs
+
+letter-requires : tie.Need-letter-requires Inv-loop μ-loop
+letter-requires c κs =
+    let a = c .before .before .before .before .before .before .before .before .before .args in
+    let l = c .before .before .before .before .before .before .loop in
+    let raw = now (a .raw) in
+    let b = getD raw (l .i) 0 in
+    let y = sym (c .before .before .plain .ensures) ∙ c .before .if3 .taken in
+    let u = piece b (l .i + 1) in
+    let v : Unescaped raw (l .i) u = piece-ascii raw (l .i) (c .before .before .before .before .before .loop-test .taken) (l .inv .0 (with-pre (a .pre) new) refl .valid) (plain-ascii b y) (plain-not-and b y) in
+    let s = with-pre (a .pre) new in
+    let t = put-all (a .pen .first) (unescape 0 (chars raw)) (pen-state s (a .pen) (now (a .out))) in
+    let k = l .inv .0 s refl in
+    (omega (arith, ink-room raw s t (a .pen .len) (l .out) (l .p) (l .i) k u v, some-size raw s t (a .pen .len) (l .out) (l .p) (l .i) k u v, l .inv .1, c .before .before .before .before .before .before .before .before .before .pre .0), y)
+
+add-i : tie.Need-add-i Inv-loop μ-loop
+add-i c = omega (arith, c .before .before .before .before .before .before .before .before .loop-test .taken, c .before .before .before .before .before .before .before .before .before .before .before .before .good)
+
+loop-less-3 : tie.Need-loop-less-3 Inv-loop μ-loop
+loop-less-3 c = omega (arith, c .before .before .before .before .before .before .before .before .loop-test .taken)
+
+loop-again-3 : tie.Need-loop-again-3 Inv-loop μ-loop
+loop-again-3 c =
+    let a = c .before .before .before .before .before .before .before .before .before .before .before .before .args in
+    let l = c .before .before .before .before .before .before .before .before .before .loop in
+    let raw = now (a .raw) in
+    let b = getD raw (l .i) 0 in
+    let y = sym (c .before .before .before .before .before .plain .ensures) ∙ c .before .before .before .before .if3 .taken in
+    let u = piece b (l .i + 1) in
+    let v : Unescaped raw (l .i) u = piece-ascii raw (l .i) (c .before .before .before .before .before .before .before .before .loop-test .taken) (l .inv .0 (with-pre (a .pre) new) refl .valid) (plain-ascii b y) (plain-not-and b y) in (
+      λ s h.
+          let t = put-all (a .pen .first) (unescape 0 (chars raw)) (pen-state s (a .pen) (now (a .out))) in
+          ink-write raw s t (a .pen .len) (l .out) (l .p) (l .i) (l .inv .0 s h) u v (c .before .before .letter .result) _ (plain-not-blank b y (s .pre)) (c .before .before .letter .ensures .0 s) (c .before .before .letter .ensures .1),
       search needs,
     )
 
 unescaped-requires : tie.Need-unescaped-requires Inv-loop μ-loop
-unescaped-requires c κs = (c .before .before .before .before .loop-test .taken, (c .before .before .before .before .before .loop .inv .0 (with-pre (c .before .before .before .before .before .before .before .before .args .pre) new) refl .valid, c .if2 .left))
+unescaped-requires c κs = (c .before .before .before .before .loop-test .taken, (c .before .before .before .before .before .loop .inv .0 (with-pre (c .before .before .before .before .before .before .before .before .args .pre) new) refl .valid, c .before .before .if1 .left))
 
 blank-requires-2 : tie.Need-blank-requires-2 Inv-loop μ-loop
 blank-requires-2 c κs = search needs
@@ -258,4 +258,4 @@ returns c =
     ink-done raw s t (a .pen .len) (l .out) (l .p) (l .i) (l .inv .0 s h) (c .loop-test .left)
 
 pub ink-spec : {M : Type 1} → statement M
-ink-spec = tie.close (tie.spec Inv-loop μ-loop loop-holds shared-slice-read-b plain-requires letter-requires add-i loop-less loop-again above-ascii-requires blank-requires pause-requires loop-less-2 loop-again-2 high-requires loop-less-3 loop-again-3 unescaped-requires blank-requires-2 pause-requires-2 blanks-end-requires loop-less-4 loop-again-4 write-requires loop-less-5 loop-again-5 same-length returns)
+ink-spec = tie.close (tie.spec Inv-loop μ-loop loop-holds shared-slice-read-b above-ascii-requires blank-requires pause-requires loop-less loop-again high-requires loop-less-2 loop-again-2 plain-requires letter-requires add-i loop-less-3 loop-again-3 unescaped-requires blank-requires-2 pause-requires-2 blanks-end-requires loop-less-4 loop-again-4 write-requires loop-less-5 loop-again-5 same-length returns)
