@@ -146,6 +146,12 @@ closed-next s j l h =
     let d = drop-cons s j 0 l in
     ap closed d ∙ closed-cons _ _ ∙ rw (sym (ap (starts "-->") d) ∙ h, add-one j)
 
+pub closed-past : (s : List ℕ) (j : ℕ) → length s ≤ j → closed (drop j s) ≡ drop j s
+closed-past s j h = rw (drop-of-length-le s h) closed-nil
+
+pub closed-other : (s : List ℕ) (j : ℕ) → j < length s → (getD s j 0 ≡ 45 → ⊥) → closed (drop j s) ≡ closed (drop (j + 1) s)
+closed-other s j l h = ap closed (drop-cons s j 0 l) ∙ closed-not (getD s j 0) (drop (suc j) s) h ∙ ap (λ (k : ℕ). closed (drop k s)) (sym (add-one j))
+
 starts-long : (p xs : List ℕ) → starts-with p xs ≡ true → length p ≤ length xs
 starts-long [] xs e = omega arith
 starts-long (d ∷ p) [] e = let z : _≡_ {A = ℕ} 0 1 = cc in absurd (omega arith)

@@ -135,15 +135,20 @@ fn comment_end(html: &[u8], i: usize) -> usize
     ensures { λ r. ⌜ (drop r (now (html .entry)) ≡ closed (drop i (now (html .entry)))) × ((i ≤ r) × (r ≤ length (now (html .entry)))) ⌝ }
 {
     let mut j = i;
-    loop {
-        let Found::Here(dash) = text::find(html, j, b'-') else {
+    while j < html.len() {
+        if html[j] == b'-' {
+            if text::starts_with(html, j, b"-->") {
+                return j + 3;
+            }
+            j += 1;
+            continue;
+        }
+        let Found::Here(dash) = text::find(html, j + 1, b'-') else {
             return html.len();
         };
-        if text::starts_with(html, dash, b"-->") {
-            return dash + 3;
-        }
-        j = dash + 1;
+        j = dash;
     }
+    j
 }
 
 // All turns, until the page or the room for notes is used up.
