@@ -31,27 +31,34 @@ enum Kind {
 struct Series {
     name: &'static str,
     kind: Kind,
+    start: &'static str,
     unit: &'static str,
 }
 
-const SERIES: [Series; 17] = [
-    Series { name: "release page", kind: Kind::Page, unit: RELEASE },
-    Series { name: "plain text", kind: Kind::Page, unit: PROSE },
-    Series { name: "lists", kind: Kind::Page, unit: LISTS },
-    Series { name: "ampersands", kind: Kind::Page, unit: "&" },
-    Series { name: "stars", kind: Kind::Page, unit: "*" },
-    Series { name: "angle brackets", kind: Kind::Page, unit: "<" },
-    Series { name: "comments", kind: Kind::Page, unit: "<!-- a -->" },
-    Series { name: "euro signs", kind: Kind::Page, unit: "€" },
-    Series { name: "prose", kind: Kind::Markdown, unit: MARKDOWN },
-    Series { name: "[", kind: Kind::Markdown, unit: "[" },
-    Series { name: "[](", kind: Kind::Markdown, unit: "[](" },
-    Series { name: "![", kind: Kind::Markdown, unit: "![" },
-    Series { name: "[a](b)", kind: Kind::Markdown, unit: "[a](b)" },
-    Series { name: "backticks", kind: Kind::Markdown, unit: "`a" },
-    Series { name: "table rows", kind: Kind::Markdown, unit: "|a|b|\n" },
-    Series { name: "items", kind: Kind::Markdown, unit: "- a\n  b\n" },
-    Series { name: "open comments", kind: Kind::Markdown, unit: "<!-- a -->b\n" },
+const SERIES: [Series; 23] = [
+    Series { name: "release page", kind: Kind::Page, start: "", unit: RELEASE },
+    Series { name: "plain text", kind: Kind::Page, start: "", unit: PROSE },
+    Series { name: "lists", kind: Kind::Page, start: "", unit: LISTS },
+    Series { name: "ampersands", kind: Kind::Page, start: "", unit: "&" },
+    Series { name: "stars", kind: Kind::Page, start: "", unit: "*" },
+    Series { name: "angle brackets", kind: Kind::Page, start: "", unit: "<" },
+    Series { name: "comments", kind: Kind::Page, start: "", unit: "<!-- a -->" },
+    Series { name: "open comment of hyphens", kind: Kind::Page, start: "<!--", unit: "-" },
+    Series { name: "line feeds", kind: Kind::Page, start: "", unit: "\n" },
+    Series { name: "ideographic spaces", kind: Kind::Page, start: "", unit: "\u{3000}" },
+    Series { name: "e acute", kind: Kind::Page, start: "", unit: "é" },
+    Series { name: "euro signs", kind: Kind::Page, start: "", unit: "€" },
+    Series { name: "rockets", kind: Kind::Page, start: "", unit: "🚀" },
+    Series { name: "Cyrillic", kind: Kind::Page, start: "", unit: "Реле теперь срабатывает, когда ток фазы больше уставки. " },
+    Series { name: "prose", kind: Kind::Markdown, start: "", unit: MARKDOWN },
+    Series { name: "[", kind: Kind::Markdown, start: "", unit: "[" },
+    Series { name: "[](", kind: Kind::Markdown, start: "", unit: "[](" },
+    Series { name: "![", kind: Kind::Markdown, start: "", unit: "![" },
+    Series { name: "[a](b)", kind: Kind::Markdown, start: "", unit: "[a](b)" },
+    Series { name: "backticks", kind: Kind::Markdown, start: "", unit: "`a" },
+    Series { name: "table rows", kind: Kind::Markdown, start: "", unit: "|a|b|\n" },
+    Series { name: "items", kind: Kind::Markdown, start: "", unit: "- a\n  b\n" },
+    Series { name: "open comments", kind: Kind::Markdown, start: "", unit: "<!-- a -->b\n" },
 ];
 
 struct Buffers {
@@ -109,9 +116,8 @@ fn main() {
     for s in &SERIES {
         let sizes: &[usize] = if s.kind == Kind::Page { &[1_000, 10_000, 100_000, 1_000_000] } else { &[1_000, 4_000, 16_000, 64_000] };
         for size in sizes {
-            let input = s.unit.repeat(size / s.unit.len() + 1);
-            let input = &input.as_bytes()[..s.unit.len() * (size / s.unit.len()).max(1)];
-            let times = measure(s.kind, input, &mut b);
+            let input = s.start.to_string() + &s.unit.repeat((size / s.unit.len()).max(1));
+            let times = measure(s.kind, input.as_bytes(), &mut b);
             row(s.name, input.len(), times);
             eprintln!("{}\t{}\t{:.0}\t{:.0}", s.name, input.len(), times.0, times.1);
             // where the Rust is quadratic, a longer input would take minutes

@@ -1,7 +1,7 @@
 -- The laws of `specs/Utf8.antt`.
 -- Assumes nothing.
 use Prim.Native.Nat.{ℕ, suc, _+_, _*_, _-_, _/_, _%_, _≤_, _<_}
-use mathlib.Core.Bool.{Bool, true, _||_}
+use mathlib.Core.Bool.{false, Bool, true, _||_}
 use mathlib.Core.List.{List, [], _∷_, _++_}
 use mathlib.Core.Logic.{_⊎_, inl, inr, ⊎-elim, _≢_}
 use mathlib.Core.Path.{_≡_, refl, sym, ap, _∙_}
@@ -14,7 +14,7 @@ use Rattle.text.specs.Chars.{within}
 use Rattle.text.specs.Utf8.{IsScalar, utf8, tail, row, starts3, starts4, join, char-of, char, char-size, stray}
 use Rattle.text.specs.declared.Char.{Char}
 use Rattle.text.specs.declared.Char.the-variants.{At, Bad, End}
-use Rattle.text.proofs.Tests.{decide, on, or-elim, or-right, row-true, row-is, within-true, within-is, within-above}
+use Rattle.text.proofs.Tests.{decide, on, or-elim, or-right, row-true, row-is, within-true, within-is, within-below, within-above}
 
 -- ---- the bytes of a character, by its range
 pub utf8-1 : (c : ℕ) → c < 0x80 → utf8 c ≡ c ∷ []
@@ -88,6 +88,26 @@ pub record Four (a b c d : ℕ) : Type 0 where
   pub d-high : d ≤ 0xBF
   pub long : 0x10000 ≤ value4 a b c d
   pub top : value4 a b c d ≤ 0x10FFFF
+
+-- which first bytes have three bytes, and which four
+pub no-start3 : (a b : ℕ) → 0xF0 ≤ a → starts3 a b ≡ false
+unfolding starts3
+no-start3 a b h =
+    simp (
+      within-above 0xE0 0xE0 a (omega arith) (omega arith),
+      within-above 0xE1 0xEC a (omega arith) (omega arith),
+      within-above 0xED 0xED a (omega arith) (omega arith),
+      within-above 0xEE 0xEF a (omega arith) (omega arith),
+    )
+
+pub no-start4 : (a b : ℕ) → a < 0xF0 → starts4 a b ≡ false
+unfolding starts4
+no-start4 a b h =
+    simp (
+      within-below 0xF0 0xF0 a (omega arith),
+      within-below 0xF1 0xF3 a (omega arith),
+      within-below 0xF4 0xF4 a (omega arith),
+    )
 
 pub three : (a b c : ℕ) → tail c ≡ true → starts3 a b ≡ true → Three a b c
 unfolding starts3

@@ -66,8 +66,11 @@ pub(crate) fn size_of(a: u32, b: u32, c: u32, d: u32) -> usize
     if !is_tail(c) {
         return 0;
     }
-    if is_start3(a, b) {
-        return 3;
+    if a < 0xF0 {
+        if is_start3(a, b) {
+            return 3;
+        }
+        return 0;
     }
     if !is_tail(d) {
         return 0;
