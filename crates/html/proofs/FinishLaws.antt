@@ -17,7 +17,7 @@ use Rattle.text.specs.Trim.{trim}
 use Rattle.text.specs.Cut.{cut}
 use Rattle.text.specs.Outcome.{Outcome, refused, wrote, number, returned, front, result-after, work-kept}
 use Rattle.text.proofs.Tests.{on}
-use Rattle.text.proofs.Laws.{utf8-size, decode-true, decode-false, scalars-true, chars-encode, encode-chars}
+use Rattle.text.proofs.Laws.{size-encode, utf8-size, decode-true, decode-false, scalars-true, chars-encode, encode-chars}
 use Rattle.text.proofs.CutLaws.{take-cut}
 use Rattle.text.proofs.Buffer.{Filled, filled-none, filled-more, filled-all, filled-length}
 use Rattle.html.specs.State.{State, new}
@@ -28,7 +28,7 @@ use Rattle.html.specs.Answers.{answer-number, answer-length}
 use Rattle.html.specs.declared.Answer.{Answer}
 use Rattle.html.specs.declared.Tagged.{Tagged}
 use Rattle.html.specs.declared.Converter.{Converter}
-use Rattle.html.proofs.OutLaws.{written-take, size-encode}
+use Rattle.html.proofs.OutLaws.{written-take}
 use Rattle.html.proofs.CloseLaws.{chars-trim}
 
 -- ---- 8,000 characters have at most 32,000 bytes
@@ -96,7 +96,7 @@ module _ (page : List ℕ) (u : is-utf8 page ≡ true) where
     read-scalars = rw cut-is (cut-scalars 1048576 (chars page) page-scalars)
 
     size-is : size (cut 1048576 (chars page)) ≡ n
-    size-is = size-encode (read-of page) ∙ sym e
+    size-is = sym (size-encode (read-of page)) ∙ sym e
 
     call-is : (w r : ℕ) → html-to-markdown-call page w r ≡ with-buffers (chars page) w r
     unfolding html-to-markdown-call

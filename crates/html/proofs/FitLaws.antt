@@ -15,6 +15,7 @@ use Rattle.text.specs.Trim.{trim}
 use Rattle.text.specs.Decimal.{decimal}
 use Rattle.text.proofs.Tests.{on}
 use Rattle.text.proofs.Utf8.{utf8-1}
+use Rattle.text.proofs.Laws.{size-append}
 use Rattle.html.specs.State.{State, new, with-out, with-lists, with-skip, push-str, block, newline, spaced, marks, list-changed, item, tag, tag-of, text}
 use Rattle.html.specs.Page.{listed, shown, skipped, element, inside, words, Turn, read, refused, tag-read, comment, a-tag, markup, turn}
 use Rattle.html.specs.Struct.{tag-means, step-means, level-of, heading-of, list-tag, marks-of, number}
@@ -48,11 +49,6 @@ module _ (m n : ℕ) (c : State) (f : Fit m n c) where
   like j d e h = record { few = rw e (f .few); small = λ k. rw e (omega (arith, f .small k)); short = omega (arith, f .short) }
 
 -- ---- items
-size-append : (s t : List ℕ) → size (s ++ t) ≡ size s + size t
-unfolding size
-size-append [] t = omega arith
-size-append (x ∷ s) t = omega (arith, size-append s t)
-
 size-indent : (k : ℕ) → size (repeat k "  ") ≡ 2 * k
 unfolding size
 size-indent zero = refl

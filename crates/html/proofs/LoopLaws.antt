@@ -8,6 +8,7 @@ use mathlib.Core.Option.{Option, some, none}
 use mathlib.Core.List.{List, [], _∷_}
 use lib.ListN.{length, getD, drop, length-drop}
 use Rattle.text.specs.Words.{if_then_else_, _>>=_}
+use Rattle.text.proofs.Laws.{size-chars}
 use Rattle.text.specs.Utf8.{Scalars, size, chars}
 use Rattle.html.specs.State.{State, new}
 use Rattle.html.specs.Page.{Turn, read, refused, turn, loop}
@@ -18,7 +19,7 @@ use Rattle.html.proofs.GrowLaws.{len-of}
 use Rattle.html.proofs.StepLaws.{depth-is, lists-is}
 use Rattle.html.proofs.TextLaws.{scalars-drop}
 use Rattle.html.proofs.FitLaws.{Fit, fit-new, fit-more, OnTurn, turn-fit}
-use Rattle.html.proofs.TurnLaws.{loop-left, loop-full, loop-end, Kept, kept, size-chars}
+use Rattle.html.proofs.TurnLaws.{loop-left, loop-full, loop-end, Kept, kept}
 
 top : (m : ℕ) (l : List ℕ) → getD l 0 0 ≤ m → number l ≤ m
 unfolding number

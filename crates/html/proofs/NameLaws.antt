@@ -17,7 +17,7 @@ use borrow.Author.Tests.{eq-eqb, ne-eqb, eqb-true, ltb-true, ltb-false, le-leb, 
 use Rattle.text.specs.Words.{if_then_else_, case, str, all, same, lookup, take-while}
 use Rattle.text.specs.Chars.{within, is-alphanumeric, is-digit, to-lower}
 use Rattle.text.specs.Utf8.{chars}
-use Rattle.text.proofs.Tests.{decide, on, and-true, within-true, within-is, within-above, or-elim}
+use Rattle.text.proofs.Tests.{same-true, decide, on, and-true, within-true, within-is, within-above, or-elim}
 use Rattle.text.proofs.Laws.{chars-nil}
 use Rattle.text.proofs.AsciiLaws.{chars-ascii, chars-high}
 use Rattle.html.specs.State as state
@@ -223,12 +223,6 @@ module _ (s : List ℕ) (k i : ℕ) (t : Keyed s k i) where
         }
 
 -- ---- what a table says by that number
-pub same-is : (s t : List ℕ) → same s t ≡ true → s ≡ t
-same-is [] [] e = refl
-same-is [] (d ∷ t) e = let y : _≡_ {A = ℕ} 0 1 = cc in absurd (omega arith)
-same-is (c ∷ s) [] e = let y : _≡_ {A = ℕ} 0 1 = cc in absurd (omega arith)
-same-is (c ∷ s) (d ∷ t) e = let p = and-true (eqb c d) (same s t) e in ap₂ _∷_ (eqb-true c d (p .0)) (same-is s t (p .1))
-
 same-self : (s : List ℕ) → same s s ≡ true
 same-self [] = refl
 same-self (c ∷ s) = rw (eq-eqb c c refl) (same-self s)
@@ -237,7 +231,7 @@ same-key : (p n : List ℕ) → short p ≡ true → all-digits n ≡ true → s
 same-key p n h k = go (same p n) refl
   where
     go : (t : Bool) → same p n ≡ t → t ≡ eqb (key p) (key n)
-    go true e = sym (eq-eqb (key p) (key n) (ap key (same-is p n e)))
+    go true e = sym (eq-eqb (key p) (key n) (ap key (same-true p n e)))
     go false e = sym (ne-eqb (key p) (key n) (λ q. let y : true ≡ false = sym (same-self p) ∙ ap (same p) (key-is p n h k q) ∙ e in let z : _≡_ {A = ℕ} 0 1 = cc in omega arith))
 
 abbrev pub found : Rows → ℕ → Tag
@@ -323,8 +317,8 @@ style-other = refl
 pub says-means : (n : List ℕ) → tag-means (says n) ≡ tag-of n
 says-means n =
     ap tag-means (says-first n)
-    ∙ on (λ (x : Tag). tag-means x ≡ tag-of n) (same (str "script") n) (λ e. rw (← same-is (str "script") n e) script-other)
-    (λ _. on (λ (x : Tag). tag-means x ≡ tag-of n) (same (str "style") n) (λ e. rw (← same-is (str "style") n e) style-other) (λ _. writing-means n))
+    ∙ on (λ (x : Tag). tag-means x ≡ tag-of n) (same (str "script") n) (λ e. rw (← same-true (str "script") n e) script-other)
+    (λ _. on (λ (x : Tag). tag-means x ≡ tag-of n) (same (str "style") n) (λ e. rw (← same-true (str "style") n e) style-other) (λ _. writing-means n))
 
 -- the skipped tag that it is
 abbrev plain : Rows → Bool

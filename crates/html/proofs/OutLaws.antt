@@ -17,7 +17,7 @@ use Rattle.text.specs.Chars.{is-digit}
 use Rattle.text.specs.Utf8.{IsScalar, utf8, encode, size, tail, chars}
 use Rattle.text.proofs.Tests.{decide, within-above, and-false}
 use Rattle.text.proofs.Utf8.{utf8-1}
-use Rattle.text.proofs.Laws.{chars-nil, chars-utf8, chars-append, encode-chars, encode-append, utf8-lead}
+use Rattle.text.proofs.Laws.{chars-nil, chars-utf8, chars-append, encode-chars, encode-append, utf8-lead, size-chars}
 use Rattle.text.proofs.AsciiLaws.{Ascii, chars-ascii}
 use Rattle.text.proofs.PutLaws.{put-parts}
 use Rattle.html.specs.State.{line-start, ends-with-digit}
@@ -75,11 +75,6 @@ out-put n w c h s =
     ap (λ (x : List ℕ). reverse (chars x)) e ∙ snoc-char (written n w) c s
 
 -- ---- how many bytes there are
-pub size-encode : (cs : List ℕ) → size cs ≡ length (encode cs)
-unfolding size
-size-encode [] = refl
-size-encode (c ∷ cs) = rw (size-encode cs) (sym (length-append (utf8 c) (encode cs)))
-
 pub size-aux : (xs o : List ℕ) → size (reverseAux xs o) ≡ size xs + size o
 unfolding size
 size-aux [] o = omega arith
@@ -88,7 +83,7 @@ size-aux (x ∷ xs) o = omega (arith, size-aux xs (x ∷ o))
 pub size-out : (n : ℕ) (w : List ℕ) → size (out-of n w) ≡ n
 unfolding out-of size
 size-out n w =
-    omega (arith, size-aux (chars (written n w)) [], size-encode (chars (written n w)), ap length (encode-chars (written n w)), length-written n w)
+    omega (arith, size-aux (chars (written n w)) [], size-chars (written n w), length-written n w)
 
 pub out-none : (n : ℕ) (w : List ℕ) → n ≡ 0 → out-of n w ≡ []
 unfolding out-of

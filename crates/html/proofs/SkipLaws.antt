@@ -11,7 +11,7 @@ use lib.ListN.{drop}
 use mir.Val.{boolByte}
 use Rattle.text.specs.Words.{if_then_else_, case, str, same, starts}
 use Rattle.text.specs.Utf8.{chars}
-use Rattle.text.proofs.Tests.{and-true}
+use Rattle.text.proofs.Tests.{same-true, and-true}
 use Rattle.text.proofs.AsciiLaws.{starts-chars}
 use Rattle.html.specs.State.{State, with-skip, tag-of, text}
 use Rattle.html.specs.Page.{listed, shown, skipped, element, inside, words}
@@ -20,7 +20,7 @@ use Rattle.html.specs.Names.{name-of, says, tag-skip, skip-no}
 use Rattle.html.specs.declared.Skip.{Skip}
 use Rattle.html.specs.declared.Skip.the-variants.{Nothing, Script, Style}
 use Rattle.html.specs.declared.Tag.{Tag}
-use Rattle.html.proofs.NameLaws.{says-means, says-skip, same-is, name-chars}
+use Rattle.html.proofs.NameLaws.{says-means, says-skip, name-chars}
 use Rattle.html.proofs.CloseLaws.{drop-chars}
 
 no : {X : Type 0} → _≡_ {A = ℕ} 0 1 → X
@@ -37,9 +37,9 @@ is-of n = go (same (str "script") n) refl (same (str "style") n) refl
   where
     go : (a : Bool) → same (str "script") n ≡ a → (b : Bool) → same (str "style") n ≡ b → Is n (skip-no (tag-skip (says n)))
     go true p b q =
-        let e = same-is (str "script") n p in
+        let e = same-true (str "script") n p in
         script p (rw (← e)) (says-skip n ∙ rw p) (sym e)
-    go false p true q = style p q (says-skip n ∙ rw (p, q)) (sym (same-is (str "style") n q))
+    go false p true q = style p q (says-skip n ∙ rw (p, q)) (sym (same-true (str "style") n q))
     go false p false q = neither p q (says-skip n ∙ rw (p, q))
 
 skip-one : (k : Skip) → skip-no k ≡ 1 → k ≡ Script

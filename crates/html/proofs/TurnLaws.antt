@@ -17,7 +17,7 @@ use Rattle.text.specs.Trim.{trim}
 use Rattle.text.specs.Find.{found}
 use Rattle.text.specs.declared.Found.the-variants.{Here, Nowhere}
 use Rattle.text.proofs.Tests.{on}
-use Rattle.text.proofs.Laws.{chars-nil, advance-end, encode-chars}
+use Rattle.text.proofs.Laws.{size-chars, chars-nil, advance-end, encode-chars}
 use Rattle.text.proofs.AsciiLaws.{chars-ascii, starts-chars}
 use Rattle.text.proofs.FindLaws.{until, since, until-since, chars-until, chars-since, index-until, IsHere, found-here, found-nowhere}
 use Rattle.html.specs.State.{State}
@@ -25,7 +25,6 @@ use Rattle.html.specs.Page.{inside, words, Turn, read, refused, tag-read
 use Rattle.html.specs.Struct.{state-of, tagged, turned, left, closed}
 use Rattle.html.specs.declared.Tagged.{Tagged}
 use Rattle.html.specs.declared.Converter.{Converter}
-use Rattle.html.proofs.OutLaws.{size-encode}
 use Rattle.html.proofs.GrowLaws.{len-of}
 use Rattle.html.proofs.StepLaws.{lists-is, like}
 use Rattle.html.proofs.FitLaws.{words-size, words-lists}
@@ -320,9 +319,6 @@ piece-scalars h at j c f s = rw (piece-is h at c j f) (scalars-until 60 (chars (
 
 pub mark-room : (s : List ℕ) (j : ℕ) (t : Bool) → t ≡ starts "<!--" (drop j s) → t ≡ true → j + 4 ≤ length s
 mark-room s j t e y = starts-room (60 ∷ 33 ∷ 45 ∷ 45 ∷ []) s j (omega arith) (sym e ∙ y)
-
-pub size-chars : (bs : List ℕ) → size (chars bs) ≡ length bs
-size-chars bs = size-encode (chars bs) ∙ ap length (encode-chars bs)
 
 -- after the text of a turn the tag has room
 pub record Room (a r : Converter) (n : ℕ) : Type 0 where
