@@ -66,35 +66,39 @@ struct Buffers {
     result: Vec<u8>,
 }
 
-/// The least time of a call, over as many rounds as fit a tenth of a second, at least one.
-fn least(mut call: impl FnMut()) -> f64 {
-    let (start, mut best, mut rounds) = (Instant::now(), Duration::MAX, 0);
-    while rounds < 1 || start.elapsed() < Duration::from_millis(100) && rounds < 2_000 {
+/// The least time of either of two calls in nanoseconds, over as many rounds as fit two tenths of a second, at least one. They take turns, so that
+/// whatever slows the machine for a while slows both.
+fn least(mut first: impl FnMut(), mut second: impl FnMut()) -> (f64, f64) {
+    let mut time = |best: Duration, call: &mut dyn FnMut()| {
         let turn = Instant::now();
         call();
-        best = best.min(turn.elapsed());
+        best.min(turn.elapsed())
+    };
+    let (start, mut best, mut rounds) = (Instant::now(), (Duration::MAX, Duration::MAX), 0);
+    while rounds < 1 || start.elapsed() < Duration::from_millis(200) && rounds < 4_000 {
+        best = (time(best.0, &mut first), time(best.1, &mut second));
         rounds += 1;
     }
-    best.as_nanos() as f64
+    (best.0.as_nanos() as f64, best.1.as_nanos() as f64)
 }
 
 /// Nanoseconds of the port and of the Rust, each from the bytes on.
 fn measure(kind: Kind, input: &[u8], b: &mut Buffers) -> (f64, f64) {
-    let port = least(|| {
+    let port = || {
         let answer = match kind {
             Kind::Page => port::html_to_markdown(black_box(input), &mut b.work, &mut b.result),
             Kind::Markdown => port::blocks(black_box(input), &mut b.work, &mut b.result),
         };
         assert_eq!(black_box(answer).number, 0);
-    });
-    let rust = least(|| {
+    };
+    let rust = || {
         let text = std::str::from_utf8(black_box(input)).unwrap();
         match kind {
             Kind::Page => drop(black_box(oracle::html_to_markdown(text))),
             Kind::Markdown => drop(black_box(oracle::blocks(text))),
         }
-    });
-    (port, rust)
+    };
+    least(port, rust)
 }
 
 fn row(name: &str, size: usize, (port, rust): (f64, f64)) {
