@@ -1,7 +1,7 @@
 -- The laws of `specs/Utf8.antt`.
 -- Assumes nothing.
 use Prim.Native.Nat.{ℕ, suc, _+_, _*_, _-_, _/_, _%_, _≤_, _<_}
-use mathlib.Core.Bool.{false, Bool, true, _||_}
+use mathlib.Core.Bool.{Bool, true, false, _&&_, _||_}
 use mathlib.Core.List.{List, [], _∷_, _++_}
 use mathlib.Core.Logic.{_⊎_, inl, inr, ⊎-elim, _≢_}
 use mathlib.Core.Path.{_≡_, refl, sym, ap, _∙_}
@@ -10,8 +10,9 @@ use native.Mathlib.Omega.{arith}
 use lib.Dec.{leb, ltb}
 use lib.ListN.{length, getD, drop, drop-of-length-le}
 use lib.Seq.{drop-append-seam, drop-cons, getD-drop}
+use Rattle.text.specs.Words.{if_then_else_}
 use Rattle.text.specs.Chars.{within}
-use Rattle.text.specs.Utf8.{IsScalar, utf8, tail, row, starts3, starts4, join, char-of, char, char-size, stray}
+use Rattle.text.specs.Utf8.{IsScalar, utf8, tail, row, starts3, starts4, given, join, char-of, char, char-size, stray}
 use Rattle.text.specs.declared.Char.{Char}
 use Rattle.text.specs.declared.Char.the-variants.{At, Bad, End}
 use Rattle.text.proofs.Tests.{decide, on, or-elim, or-right, row-true, row-is, within-true, within-is, within-below, within-above}
@@ -89,10 +90,12 @@ pub record Four (a b c d : ℕ) : Type 0 where
   pub long : 0x10000 ≤ value4 a b c d
   pub top : value4 a b c d ≤ 0x10FFFF
 
--- which first bytes have three bytes, and which four
-pub no-start3 : (a b : ℕ) → 0xF0 ≤ a → starts3 a b ≡ false
+-- ---- how many bytes there are, by the range of the first
+no-start3 : (a b : ℕ) → (a < 0xE0) ⊎ (0xF0 ≤ a) → starts3 a b ≡ false
 unfolding starts3
-no-start3 a b h =
+no-start3 a b (inl h) =
+    simp (within-below 0xE0 0xE0 a (omega arith), within-below 0xE1 0xEC a (omega arith), within-below 0xED 0xED a (omega arith), within-below 0xEE 0xEF a (omega arith))
+no-start3 a b (inr h) =
     simp (
       within-above 0xE0 0xE0 a (omega arith) (omega arith),
       within-above 0xE1 0xEC a (omega arith) (omega arith),
@@ -100,14 +103,45 @@ no-start3 a b h =
       within-above 0xEE 0xEF a (omega arith) (omega arith),
     )
 
-pub no-start4 : (a b : ℕ) → a < 0xF0 → starts4 a b ≡ false
+no-start4 : (a b : ℕ) → a < 0xF0 → starts4 a b ≡ false
 unfolding starts4
-no-start4 a b h =
-    simp (
-      within-below 0xF0 0xF0 a (omega arith),
-      within-below 0xF1 0xF3 a (omega arith),
-      within-below 0xF4 0xF4 a (omega arith),
-    )
+no-start4 a b h = simp (within-below 0xF0 0xF0 a (omega arith), within-below 0xF1 0xF3 a (omega arith), within-below 0xF4 0xF4 a (omega arith))
+
+module _ (a b c d : ℕ) (l : 0x7F < a) where
+  -- the tests of `char-of` by the first byte's range, the others known
+  two-by : (w tb tc td : Bool) (x : ℕ) → (if w && tb then 2 else 0) ≡ char-size (given tb (if w then At x 2 else given tc (given td Bad)))
+  two-by true true tc td x = refl
+  two-by true false tc td x = refl
+  two-by false true true true x = refl
+  two-by false true true false x = refl
+  two-by false true false td x = refl
+  two-by false false tc td x = refl
+
+  three-by : (tb tc s td : Bool) (y : ℕ) → (if tb && tc && s then 3 else 0) ≡ char-size (given tb (given tc (if s then At y 3 else given td Bad)))
+  three-by true true true td y = refl
+  three-by true true false true y = refl
+  three-by true true false false y = refl
+  three-by true false s td y = refl
+  three-by false tc s td y = refl
+
+  four-by : (tb tc td s : Bool) (z : ℕ) → (if tb && tc && td && s then 4 else 0) ≡ char-size (given tb (given tc (given td (given s (At z 4)))))
+  four-by true true true true z = refl
+  four-by true true true false z = refl
+  four-by true true false s z = refl
+  four-by true false td s z = refl
+  four-by false tc td s z = refl
+
+  pub two-bytes : a < 0xE0 → (if within 0xC2 0xDF a && tail b then 2 else 0) ≡ char-size (char-of a b c d)
+  unfolding char-of
+  two-bytes h = simp (lt-leb a 0x7F l, no-start3 a b (inl h), no-start4 a b (omega arith)) (two-by (within 0xC2 0xDF a) (tail b) (tail c) (tail d) _)
+
+  pub three-bytes : 0xE0 ≤ a → a < 0xF0 → (if tail b && tail c && starts3 a b then 3 else 0) ≡ char-size (char-of a b c d)
+  unfolding char-of
+  three-bytes g h = simp (lt-leb a 0x7F l, within-above 0xC2 0xDF a (omega arith) (omega arith), no-start4 a b h) (three-by (tail b) (tail c) (starts3 a b) (tail d) _)
+
+  pub four-bytes : 0xF0 ≤ a → (if tail b && tail c && tail d && starts4 a b then 4 else 0) ≡ char-size (char-of a b c d)
+  unfolding char-of
+  four-bytes g = simp (lt-leb a 0x7F l, within-above 0xC2 0xDF a (omega arith) (omega arith), no-start3 a b (inr g)) (four-by (tail b) (tail c) (tail d) (starts4 a b) _)
 
 pub three : (a b c : ℕ) → tail c ≡ true → starts3 a b ≡ true → Three a b c
 unfolding starts3

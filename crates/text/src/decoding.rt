@@ -3,6 +3,7 @@ ghost use Prim.Native.Nat.{_+_, _<_, _≤_};
 ghost use mathlib.Core.Path.{_≡_};
 ghost use mathlib.Core.Bool.{true};
 ghost use lib.ListN.{length, getD, drop};
+ghost use Rattle.text.specs.Words.{if_then_else_};
 ghost use Rattle.text.specs.Utf8.{tail, row, starts3, starts4, join, char-of, char, size-of, char-size, char-code, code-at, is-utf8};
 use crate::Char;
 use crate::ascii::ascii_end;
@@ -50,6 +51,13 @@ fn is_start4(a: u32, b: u32) -> bool
         | row(0xF4, 0xF4, 0x80, 0x8F, a, b)
 }
 
+// A size, or 0.
+fn when(t: bool, n: usize) -> usize
+    ensures { λ r. ⌜ r ≡ (if t then n else 0) ⌝ }
+{
+    if t { n } else { 0 }
+}
+
 // How many bytes the character has that the bytes a b c d start with; 0 where they start none.
 pub(crate) fn size_of(a: u32, b: u32, c: u32, d: u32) -> usize
     ensures { λ r. ⌜ r ≡ char-size (char-of a b c d) ⌝ }
@@ -57,28 +65,13 @@ pub(crate) fn size_of(a: u32, b: u32, c: u32, d: u32) -> usize
     if a <= 0x7F {
         return 1;
     }
-    if !is_tail(b) {
-        return 0;
-    }
-    if within(0xC2, 0xDF, a) {
-        return 2;
-    }
-    if !is_tail(c) {
-        return 0;
+    if a < 0xE0 {
+        return when(within(0xC2, 0xDF, a) & is_tail(b), 2);
     }
     if a < 0xF0 {
-        if is_start3(a, b) {
-            return 3;
-        }
-        return 0;
+        return when(is_tail(b) & is_tail(c) & is_start3(a, b), 3);
     }
-    if !is_tail(d) {
-        return 0;
-    }
-    if is_start4(a, b) {
-        return 4;
-    }
-    0
+    when(is_tail(b) & is_tail(c) & is_tail(d) & is_start4(a, b), 4)
 }
 
 // Six bits more, those of the tail b.
