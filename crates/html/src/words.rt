@@ -97,6 +97,16 @@ fn blank(c: u32, pre: bool) -> bool
     !pre & text::is_space(c)
 }
 
+// The same, with one test for most characters above ASCII.
+fn blank_high(c: u32, pre: bool) -> bool
+    ensures { λ r. ⌜ r ≡ blank pre c ⌝ }
+{
+    if 0x2060 <= c {
+        return !pre & (c == 12288);
+    }
+    blank(c, pre)
+}
+
 // Characters that the Markdown reader would take for emphasis or a link.
 fn special(c: u32) -> bool
     ensures { λ r. ⌜ r ≡ special c ⌝ }
@@ -233,7 +243,7 @@ fn ink(pen: Pen, out: &mut [u8], raw: &[u8], pre: bool) -> Pen
         if 0x80 <= b {
             let v = above_ascii(raw, i);
             i = v.next;
-            if blank(v.code, pre) {
+            if blank_high(v.code, pre) {
                 p = p.pause(out);
                 continue;
             }

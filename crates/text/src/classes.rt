@@ -12,16 +12,16 @@ pub fn within(lo: u32, hi: u32, x: u32) -> bool
 pub fn is_space(c: u32) -> bool
     ensures { λ r. ⌜ r ≡ is-space c ⌝ }
 {
-    if 0x2060 <= c {
-        return c == 12288;
-    }
     if c < 0x80 {
         return within(9, 13, c) | (c == 32);
     }
     if c < 0x2000 {
         return (c == 133) | (c == 160) | (c == 5760);
     }
-    within(8192, 8202, c) | (c == 8232) | (c == 8233) | (c == 8239) | (c == 8287)
+    if c < 0x2060 {
+        return within(8192, 8202, c) | (c == 8232) | (c == 8233) | (c == 8239) | (c == 8287);
+    }
+    c == 12288
 }
 
 pub fn is_control(c: u32) -> bool

@@ -22,6 +22,7 @@ use Rattle.html.proofs.words.Pen.pause.Reads as pause-reads
 use Rattle.html.proofs.words.Pen.write.Reads as write-reads
 use Rattle.html.proofs.words.above_ascii.Reads as above-ascii-reads
 use Rattle.html.proofs.words.blank.Reads as blank-reads
+use Rattle.html.proofs.words.blank_high.Reads as blank-high-reads
 use Rattle.html.proofs.words.blanks_end.Reads as blanks-end-reads
 use Rattle.html.proofs.words.plain.Reads as plain-reads
 use Rattle.html.proofs.words.unescaped.Reads as unescaped-reads
@@ -43,8 +44,8 @@ shared-slice-read-b c = c .before .loop-test .taken
 above-ascii-requires : tie.Need-above-ascii-requires Inv-loop μ-loop
 above-ascii-requires c κs = (c .before .before .loop-test .taken, (c .before .before .before .loop .inv .0 (with-pre (c .before .before .before .before .before .before .args .pre) new) refl .valid, c .if1 .taken))
 
-blank-requires : tie.Need-blank-requires Inv-loop μ-loop
-blank-requires c κs = search needs
+blank-high-requires : tie.Need-blank-high-requires Inv-loop μ-loop
+blank-high-requires c κs = search needs
 
 pause-requires : tie.Need-pause-requires Inv-loop μ-loop
 pause-requires c κs =
@@ -79,7 +80,7 @@ loop-again c =
     let v = c .before .before .before .before .above-ascii .ensures .0 in (
       λ s h.
           let t = put-all (a .pen .first) (unescape 0 (chars raw)) (pen-state s (a .pen) (now (a .out))) in
-          ink-pause raw s t (a .pen .len) (l .out) (l .p) (l .i) (l .inv .0 s h) u v (c .pause .result) (ap (λ (b : Bool). blank b (u .code)) h ∙ sym (c .before .before .before .blank .ensures) ∙ c .before .before .if2 .taken) (c .pause .ensures .0 s) (c .pause .ensures .1),
+          ink-pause raw s t (a .pen .len) (l .out) (l .p) (l .i) (l .inv .0 s h) u v (c .pause .result) (ap (λ (b : Bool). blank b (u .code)) h ∙ sym (c .before .before .before .blank-high .ensures) ∙ c .before .before .if2 .taken) (c .pause .ensures .0 s) (c .pause .ensures .1),
       l .inv .1,
     )
 
@@ -116,7 +117,7 @@ loop-again-2 c =
     let v = c .before .before .before .before .before .before .above-ascii .ensures .0 in (
       λ s h.
           let t = put-all (a .pen .first) (unescape 0 (chars raw)) (pen-state s (a .pen) (now (a .out))) in
-          ink-write raw s t (a .pen .len) (l .out) (l .p) (l .i) (l .inv .0 s h) u v (c .before .before .high .result) _ (ap (λ (b : Bool). blank b (u .code)) h ∙ sym (c .before .before .before .before .before .blank .ensures) ∙ c .before .before .before .before .if2 .left) (c .before .before .high .ensures .0 s) (c .before .before .high .ensures .1),
+          ink-write raw s t (a .pen .len) (l .out) (l .p) (l .i) (l .inv .0 s h) u v (c .before .before .high .result) _ (ap (λ (b : Bool). blank b (u .code)) h ∙ sym (c .before .before .before .before .before .blank-high .ensures) ∙ c .before .before .before .before .if2 .left) (c .before .before .high .ensures .0 s) (c .before .before .high .ensures .1),
       search needs,
     )
 
@@ -161,8 +162,8 @@ loop-again-3 c =
 unescaped-requires : tie.Need-unescaped-requires Inv-loop μ-loop
 unescaped-requires c κs = (c .before .before .before .before .loop-test .taken, (c .before .before .before .before .before .loop .inv .0 (with-pre (c .before .before .before .before .before .before .before .before .args .pre) new) refl .valid, c .before .before .if1 .left))
 
-blank-requires-2 : tie.Need-blank-requires-2 Inv-loop μ-loop
-blank-requires-2 c κs = search needs
+blank-requires : tie.Need-blank-requires Inv-loop μ-loop
+blank-requires c κs = search needs
 
 pause-requires-2 : tie.Need-pause-requires-2 Inv-loop μ-loop
 pause-requires-2 c κs =
@@ -200,7 +201,7 @@ loop-again-4 c =
     let v = c .before .before .before .before .before .unescaped .ensures in (
       λ s h.
           let t = put-all (a .pen .first) (unescape 0 (chars raw)) (pen-state s (a .pen) (now (a .out))) in
-          let b = ap (λ (b : Bool). blank b (u .code)) h ∙ sym (c .before .before .before .before .blank2 .ensures) ∙ c .before .before .before .if4 .taken in
+          let b = ap (λ (b : Bool). blank b (u .code)) h ∙ sym (c .before .before .before .before .blank .ensures) ∙ c .before .before .before .if4 .taken in
           let e = c .before .pause2 .ensures .0 s in
           ink-blanks raw s t (a .pen .len) (l .out) (l .p) (c .before .pause2 .result) (u .next) (c .blanks-end .result)
           (ink-pause raw s t (a .pen .len) (l .out) (l .p) (l .i) (l .inv .0 s h) u v (c .before .pause2 .result) b e (c .before .pause2 .ensures .1))
@@ -241,7 +242,7 @@ loop-again-5 c =
     let v = c .before .before .before .before .before .before .unescaped .ensures in (
       λ s h.
           let t = put-all (a .pen .first) (unescape 0 (chars raw)) (pen-state s (a .pen) (now (a .out))) in
-          ink-write raw s t (a .pen .len) (l .out) (l .p) (l .i) (l .inv .0 s h) u v (c .before .before .write .result) _ (ap (λ (b : Bool). blank b (u .code)) h ∙ sym (c .before .before .before .before .before .blank2 .ensures) ∙ c .before .before .before .before .if4 .left) (c .before .before .write .ensures .0 s h) (c .before .before .write .ensures .1),
+          ink-write raw s t (a .pen .len) (l .out) (l .p) (l .i) (l .inv .0 s h) u v (c .before .before .write .result) _ (ap (λ (b : Bool). blank b (u .code)) h ∙ sym (c .before .before .before .before .before .blank .ensures) ∙ c .before .before .before .before .if4 .left) (c .before .before .write .ensures .0 s h) (c .before .before .write .ensures .1),
       search needs,
     )
 
@@ -258,4 +259,4 @@ returns c =
     ink-done raw s t (a .pen .len) (l .out) (l .p) (l .i) (l .inv .0 s h) (c .loop-test .left)
 
 pub ink-spec : {M : Type 1} → statement M
-ink-spec = tie.close (tie.spec Inv-loop μ-loop loop-holds shared-slice-read-b above-ascii-requires blank-requires pause-requires loop-less loop-again high-requires loop-less-2 loop-again-2 plain-requires letter-requires add-i loop-less-3 loop-again-3 unescaped-requires blank-requires-2 pause-requires-2 blanks-end-requires loop-less-4 loop-again-4 write-requires loop-less-5 loop-again-5 same-length returns)
+ink-spec = tie.close (tie.spec Inv-loop μ-loop loop-holds shared-slice-read-b above-ascii-requires blank-high-requires pause-requires loop-less loop-again high-requires loop-less-2 loop-again-2 plain-requires letter-requires add-i loop-less-3 loop-again-3 unescaped-requires blank-requires pause-requires-2 blanks-end-requires loop-less-4 loop-again-4 write-requires loop-less-5 loop-again-5 same-length returns)
