@@ -172,10 +172,6 @@ none-of a l h = ap (λ (n : ℕ). is-empty (upto n l)) h
 pub some-of : (a : Converter) (l : List ℕ) → (a .depth ≡ 0 → ⊥) → is-empty (lists-of a l) ≡ false
 some-of a l h = ap is-empty (upto-last (a .depth) l (omega arith))
 
-pub list-closed : (first : ℕ) (c : State) → some (list-changed (tail (c .lists)) c) ≡ list-tag first true c
-unfolding list-tag
-list-closed first c = refl
-
 pub list-full : (first : ℕ) (c : State) → 64 ≤ length (c .lists) → none ≡ list-tag first false c
 unfolding list-tag
 list-full first c h = rw (le-leb _ _ h)
@@ -323,6 +319,3 @@ spaced-len r n w w' false e = omega (arith, out-len r w' _ e, size-out n w)
 pub put-len : (r n c : ℕ) (w w' : List ℕ) → out-of r w' ≡ c ∷ out-of n w → r ≡ n + length (utf8 c)
 unfolding size
 put-len r n c w w' e = omega (arith, out-len r w' _ e, size-out n w)
-
-pub push-len : (r n b : ℕ) (w w' : List ℕ) → b < 0x80 → out-of r w' ≡ b ∷ out-of n w → r ≡ n + 1
-push-len r n b w w' h e = omega (arith, put-len r n b w w' e, ap length (utf8-1 b h))
