@@ -3,15 +3,18 @@
 use Prim.Native.Nat.{ℕ, zero, suc, _+_, _-_, _*_, _/_, _%_, _≤_, _<_}
 use native.Mathlib.Omega.{arith}
 use native.Mathlib.Nat.{add-zero}
+use native.Mathlib.Numerals.{add-one, add-two, add-three}
 use mathlib.Core.Path.{_≡_, refl, sym, ap, _∙_, subst}
 use mathlib.Core.Logic.{_⊎_, inl, inr}
 use mathlib.Core.List.{List, [], _∷_, _++_}
-use lib.ListN.{length, getD, take, drop}
-use lib.Seq.{getD-take, getD-append-add, length-take-le}
+use lib.ListN.{length, getD, set, take, drop}
+use lib.Seq.{sets, getD-take, getD-append-add, length-take-le}
 use Rattle.text.specs.Utf8.{IsScalar, Scalars, utf8, chars, code-at}
 use Rattle.text.proofs.Utf8.{utf8-1, utf8-2, utf8-3, utf8-4, ranges}
 use Rattle.text.proofs.Laws.{turn-is}
 use Rattle.html.specs.Pen.{Unescaped}
+use Rattle.html.specs.Struct.{out-of}
+use Rattle.html.proofs.OutLaws.{out-put}
 use Rattle.html.proofs.TextLaws.{piece, piece-other}
 
 scalar-most : (c : ℕ) → IsScalar c → c < 0x110000
@@ -71,7 +74,7 @@ module _ (s : List ℕ) (i : ℕ) (l : i < length s) (h : Scalars (chars (drop i
 
   -- ---- a byte after the first, where the first says that it is there
   abbrev Tail : ℕ → Type 0
-  Tail k = (i + k < length s) × ((0x80 ≤ getD s (i + k) 0) × (getD s (i + k) 0 < 0xC0))
+  Tail k = (i + k < length s) × ((k < length (utf8 code)) × ((0x80 ≤ getD s (i + k) 0) × (getD s (i + k) 0 < 0xC0)))
 
   pub lead : (0xC2 ≤ getD s i 0) × (getD s i 0 < 0xF5)
   lead = go above
@@ -85,17 +88,17 @@ module _ (s : List ℕ) (i : ℕ) (l : i < length s) (h : Scalars (chars (drop i
   tail-1 = go above
     where
       go : Above s i → Tail 1
-      go (two c q k m e r x y) = (omega arith, (omega arith, omega arith))
-      go (three c q k m e r x y z) = (omega arith, (omega arith, omega arith))
-      go (four c q k m e r x y z w) = (omega arith, (omega arith, omega arith))
+      go (two c q k m e r x y) = (omega arith, (rw (← q) (omega arith), (omega arith, omega arith)))
+      go (three c q k m e r x y z) = (omega arith, (rw (← q) (omega arith), (omega arith, omega arith)))
+      go (four c q k m e r x y z w) = (omega arith, (rw (← q) (omega arith), (omega arith, omega arith)))
 
   pub tail-2 : 0xE0 ≤ getD s i 0 → Tail 2
   tail-2 g = go above
     where
       go : Above s i → Tail 2
       go (two c q k m e r x y) = absurd (omega arith)
-      go (three c q k m e r x y z) = (omega arith, (omega arith, omega arith))
-      go (four c q k m e r x y z w) = (omega arith, (omega arith, omega arith))
+      go (three c q k m e r x y z) = (omega arith, (rw (← q) (omega arith), (omega arith, omega arith)))
+      go (four c q k m e r x y z w) = (omega arith, (rw (← q) (omega arith), (omega arith, omega arith)))
 
   pub tail-3 : 0xF0 ≤ getD s i 0 → Tail 3
   tail-3 g = go above
@@ -103,20 +106,20 @@ module _ (s : List ℕ) (i : ℕ) (l : i < length s) (h : Scalars (chars (drop i
       go : Above s i → Tail 3
       go (two c q k m e r x y) = absurd (omega arith)
       go (three c q k m e r x y z) = absurd (omega arith)
-      go (four c q k m e r x y z w) = (omega arith, (omega arith, omega arith))
+      go (four c q k m e r x y z w) = (omega arith, (rw (← q) (omega arith), (omega arith, omega arith)))
 
   -- ---- the character that they make
   abbrev pub Made : ℕ → ℕ → Type 0
-  Made c n = Unescaped s i (piece c (i + n)) × (0x80 ≤ c)
+  Made c n = Unescaped s i (piece c (i + n)) × (c ≡ code)
 
-  made : (c n : ℕ) → c ≡ code → length (utf8 code) ≡ n → 0x80 ≤ code → Made c n
-  made c n q e m = (piece-other s i l h c n (λ z. omega arith) q (sym e ∙ ap (λ (x : ℕ). length (utf8 x)) (sym q)), omega arith)
+  made : (c n : ℕ) → c ≡ code → length (utf8 code) ≡ n → Made c n
+  made c n q e = (piece-other s i l h c n (λ z. omega arith) q (sym e ∙ ap (λ (x : ℕ). length (utf8 x)) (sym q)), q)
 
   pub above-2 : getD s i 0 < 0xE0 → Made ((getD s i 0 - 0xC0) * 64 + (getD s (i + 1) 0 - 0x80)) 2
   above-2 g = go above
     where
       go : Above s i → Made ((getD s i 0 - 0xC0) * 64 + (getD s (i + 1) 0 - 0x80)) 2
-      go (two c q k m e r x y) = let v : (getD s i 0 - 0xC0) * 64 + (getD s (i + 1) 0 - 0x80) ≡ c = omega arith in made _ 2 (v ∙ q) (rw (← q) e) (omega arith)
+      go (two c q k m e r x y) = let v : (getD s i 0 - 0xC0) * 64 + (getD s (i + 1) 0 - 0x80) ≡ c = omega arith in made _ 2 (v ∙ q) (rw (← q) e)
       go (three c q k m e r x y z) = absurd (omega arith)
       go (four c q k m e r x y z w) = absurd (omega arith)
 
@@ -128,7 +131,7 @@ module _ (s : List ℕ) (i : ℕ) (l : i < length s) (h : Scalars (chars (drop i
       go (two c q k m e r x y) = absurd (omega arith)
       go (three c q k m e r x y z) =
           let v : ((getD s i 0 - 0xE0) * 64 + (getD s (i + 1) 0 - 0x80)) * 64 + (getD s (i + 2) 0 - 0x80) ≡ c = omega arith in
-          made _ 3 (v ∙ q) (rw (← q) e) (omega arith)
+          made _ 3 (v ∙ q) (rw (← q) e)
       go (four c q k m e r x y z w) = absurd (omega arith)
 
   pub above-4 : 0xF0 ≤ getD s i 0
@@ -141,7 +144,53 @@ module _ (s : List ℕ) (i : ℕ) (l : i < length s) (h : Scalars (chars (drop i
       go (four c q k m e r x y z w) =
           let f1 : c / 4096 ≡ c / 262144 * 64 + c / 4096 % 64 = omega arith in
           let f2 : c / 64 ≡ c / 4096 * 64 + c / 64 % 64 = omega arith in
-          let f1 : c / 4096 ≡ c / 262144 * 64 + c / 4096 % 64 = omega arith in
-          let f2 : c / 64 ≡ c / 4096 * 64 + c / 64 % 64 = omega arith in
           let v : (((getD s i 0 - 0xF0) * 64 + (getD s (i + 1) 0 - 0x80)) * 64 + (getD s (i + 2) 0 - 0x80)) * 64 + (getD s (i + 3) 0 - 0x80) ≡ c = omega arith in
-          made _ 4 (v ∙ q) (rw (← q) e) (omega arith)
+          made _ 4 (v ∙ q) (rw (← q) e)
+
+  pub high-code : 0x80 ≤ code
+  high-code = go above
+    where
+      go : Above s i → 0x80 ≤ code
+      go (two c q k m e r x y) = omega arith
+      go (three c q k m e r x y z) = omega arith
+      go (four c q k m e r x y z w) = omega arith
+
+  -- ---- its bytes copied
+  bytes-2 : getD s i 0 < 0xE0 → utf8 code ≡ getD s i 0 ∷ getD s (i + 1) 0 ∷ []
+  bytes-2 g = go above
+    where
+      go : Above s i → utf8 code ≡ getD s i 0 ∷ getD s (i + 1) 0 ∷ []
+      go (two c q k m e r x y) = ap utf8 (sym q) ∙ utf8-2 c k m ∙ rw (x, y)
+      go (three c q k m e r x y z) = absurd (omega arith)
+      go (four c q k m e r x y z w) = absurd (omega arith)
+
+  bytes-3 : 0xE0 ≤ getD s i 0 → getD s i 0 < 0xF0 → utf8 code ≡ getD s i 0 ∷ getD s (i + 1) 0 ∷ getD s (i + 2) 0 ∷ []
+  bytes-3 f g = go above
+    where
+      go : Above s i → utf8 code ≡ getD s i 0 ∷ getD s (i + 1) 0 ∷ getD s (i + 2) 0 ∷ []
+      go (two c q k m e r x y) = absurd (omega arith)
+      go (three c q k m e r x y z) = ap utf8 (sym q) ∙ utf8-3 c k m ∙ rw (x, y, z)
+      go (four c q k m e r x y z w) = absurd (omega arith)
+
+  bytes-4 : 0xF0 ≤ getD s i 0 → utf8 code ≡ getD s i 0 ∷ getD s (i + 1) 0 ∷ getD s (i + 2) 0 ∷ getD s (i + 3) 0 ∷ []
+  bytes-4 f = go above
+    where
+      go : Above s i → utf8 code ≡ getD s i 0 ∷ getD s (i + 1) 0 ∷ getD s (i + 2) 0 ∷ getD s (i + 3) 0 ∷ []
+      go (two c q k m e r x y) = absurd (omega arith)
+      go (three c q k m e r x y z) = absurd (omega arith)
+      go (four c q k m e r x y z w) = ap utf8 (sym q) ∙ utf8-4 c k m ∙ rw (x, y, z, w)
+
+  copied : (bs : List ℕ) → utf8 code ≡ bs → (n : ℕ) (w : List ℕ) → n + length (utf8 code) ≤ length w → out-of (n + length bs) (sets w n bs) ≡ code ∷ out-of n w
+  copied bs e n w r = rw (← e) (out-put n w code r (subst Scalars (turn-is s i l .rest) h .0))
+
+  module _ (n : ℕ) (w : List ℕ) (r : n + length (utf8 code) ≤ length w) where
+    pub copied-2 : getD s i 0 < 0xE0 → out-of (n + 2) (set (set w n (getD s i 0)) (n + 1) (getD s (i + 1) 0)) ≡ code ∷ out-of n w
+    copied-2 g = rw (add-one n) (copied _ (bytes-2 g) n w r)
+
+    pub copied-3 : 0xE0 ≤ getD s i 0 → getD s i 0 < 0xF0
+        → out-of (n + 3) (set (set (set w n (getD s i 0)) (n + 1) (getD s (i + 1) 0)) (n + 2) (getD s (i + 2) 0)) ≡ code ∷ out-of n w
+    copied-3 f g = rw (add-one n, add-two n) (copied _ (bytes-3 f g) n w r)
+
+    pub copied-4 : 0xF0 ≤ getD s i 0
+        → out-of (n + 4) (set (set (set (set w n (getD s i 0)) (n + 1) (getD s (i + 1) 0)) (n + 2) (getD s (i + 2) 0)) (n + 3) (getD s (i + 3) 0)) ≡ code ∷ out-of n w
+    copied-4 f = rw (add-one n, add-two n, add-three n) (copied _ (bytes-4 f) n w r)

@@ -5,7 +5,7 @@ use Prim.Native.Nat.{ℕ, _+_, _-_, _≤_, _<_}
 use mathlib.Core.Bool.{Bool, not, _&&_, _||_}
 use mathlib.Core.List.{List, _∷_}
 use mathlib.Core.Path.{_≡_}
-use lib.ListN.{length, drop}
+use lib.ListN.{length, getD, drop}
 use Rattle.text.specs.Words.{matches}
 use lib.Dec.{eqb}
 use Rattle.text.specs.Chars.{within, is-space}
@@ -35,6 +35,10 @@ blank pre x = not pre && is-space x
 -- a byte that is a space
 unfoldable pub ascii-space : ℕ → Bool
 ascii-space b = within 9 13 b || eqb b 32
+
+-- a character above ASCII stands at an offset of a text that is UTF-8
+abbrev pub AboveAscii : List ℕ → ℕ → Type 0
+AboveAscii s i = (i < length s) × (Scalars (chars (drop i s)) × (0x80 ≤ getD s i 0))
 
 -- the character at an offset, and the offset behind it
 pub record Unescaped (s : List ℕ) (i : ℕ) (r : Piece) : Type 0 where

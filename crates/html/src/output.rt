@@ -4,10 +4,11 @@ ghost use Prim.Native.Nat.{_+_, _≤_, _<_};
 ghost use mathlib.Core.List.{_∷_, reverseAux};
 ghost use lib.ListN.{length, replicate};
 ghost use Rattle.text.specs.Words.{is, starts, drop-while};
-ghost use Rattle.text.specs.Utf8.{IsScalar, utf8};
+ghost use Rattle.text.specs.Utf8.{IsScalar, utf8, code-at};
 ghost use Rattle.text.specs.Decimal.{decimal};
 ghost use Rattle.text.proofs.AsciiLaws.{Ascii};
 ghost use Rattle.html.specs.State.{line-start, ends-with-digit};
+ghost use Rattle.html.specs.Pen.{AboveAscii};
 ghost use Rattle.html.specs.Struct.{out-of, with-space};
 
 // The written bytes, without the spaces at their end.
@@ -85,6 +86,25 @@ pub(crate) fn put_char(out: &mut [u8], n: usize, c: u32) -> usize
     }
     let k = text::put(out, n, c);
     n + k
+}
+
+// The character above ASCII at i of raw more: its bytes as they stand there. The first of them says how many there are.
+pub(crate) fn copy_char(out: &mut [u8], n: usize, raw: &[u8], i: usize) -> usize
+    requires { ⌜ (n + length (utf8 (code-at (now raw) i)) ≤ length (now out)) × AboveAscii (now raw) i ⌝ }
+    ensures { λ r. ⌜ out-of r (now (out .exit)) ≡ code-at (now (raw .entry)) i ∷ out-of n (now (out .entry)) ⌝ }
+{
+    let a = raw[i];
+    out[n] = a;
+    out[n + 1] = raw[i + 1];
+    if a < 0xE0 {
+        return n + 2;
+    }
+    out[n + 2] = raw[i + 2];
+    if a < 0xF0 {
+        return n + 3;
+    }
+    out[n + 3] = raw[i + 3];
+    n + 4
 }
 
 // One ASCII byte more.

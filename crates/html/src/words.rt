@@ -1,5 +1,6 @@
 // Text outside tags: `text` of notes.rs, with the references of `unescape` replaced as they are met.
 use crate::Converter;
+use crate::output::copy_char;
 use crate::output::ends_digit;
 use crate::output::line_start;
 use crate::output::put_char;
@@ -12,12 +13,12 @@ ghost use mathlib.Core.Bool.{true, false};
 ghost use Rattle.text.specs.Chars.{is-alphanumeric};
 ghost use lib.ListN.{length, getD, drop};
 ghost use Rattle.text.specs.Words.{drop-while};
-ghost use Rattle.text.specs.Utf8.{IsScalar, Scalars, utf8, chars};
+ghost use Rattle.text.specs.Utf8.{IsScalar, Scalars, utf8, chars, code-at};
 ghost use Rattle.html.specs.State.{State, special, escape, put-all, text};
 ghost use Rattle.reference.specs.Unescape.{unescape};
 ghost use Rattle.html.specs.State as state;
 ghost use Rattle.html.specs.Struct.{state-of, out-of};
-ghost use Rattle.html.specs.Pen.{pen-state, paused, opens, blank, ascii-space, Unescaped};
+ghost use Rattle.html.specs.Pen.{pen-state, paused, opens, blank, ascii-space, AboveAscii, Unescaped};
 
 // Where text is written: the output's length, a pending space, and whether nothing of this text has been written yet.
 pub struct Pen {
@@ -34,8 +35,8 @@ pub struct Piece {
 
 // The character above ASCII at i. The text is UTF-8, so the first byte says how many there are.
 fn above_ascii(raw: &[u8], i: usize) -> Piece
-    requires { ⌜ (i < length (now raw)) × (Scalars (chars (drop i (now raw))) × (0x80 ≤ getD (now raw) i 0)) ⌝ }
-    ensures { λ r. ⌜ Unescaped (now (raw .entry)) i r × (0x80 ≤ r .code) ⌝ }
+    requires { ⌜ AboveAscii (now raw) i ⌝ }
+    ensures { λ r. ⌜ Unescaped (now (raw .entry)) i r × (r .code ≡ code-at (now (raw .entry)) i) ⌝ }
 {
     let a = raw[i] as u32;
     let b = raw[i + 1] as u32 - 0x80;
@@ -187,13 +188,13 @@ impl Pen {
         }
     }
 
-    // A character above ASCII that is written: none of them is escaped.
-    fn high(self, out: &mut [u8], c: u32) -> Pen
-        requires { ⌜ (self .len + 1 + length (utf8 c) ≤ length (now out)) × (IsScalar c × (0x80 ≤ c)) ⌝ }
-        ensures { λ r. ⌜ ((s : State) → pen-state s r (now (out .exit)) ≡ state.put (self .first) c (state.spaced (pen-state s self (now (out .entry))))) × (r .first ≡ false) ⌝ }
+    // The character above ASCII at i of raw, written: none of them is escaped.
+    fn high(self, out: &mut [u8], raw: &[u8], i: usize) -> Pen
+        requires { ⌜ (self .len + 1 + length (utf8 (code-at (now raw) i)) ≤ length (now out)) × AboveAscii (now raw) i ⌝ }
+        ensures { λ r. ⌜ ((s : State) → pen-state s r (now (out .exit)) ≡ state.put (self .first) (code-at (now (raw .entry)) i) (state.spaced (pen-state s self (now (out .entry))))) × (r .first ≡ false) ⌝ }
     {
         let n = spaced(out, self.len, self.space);
-        let m = put_char(out, n, c);
+        let m = copy_char(out, n, raw, i);
         Pen {
             len: m,
             space: false,
@@ -242,12 +243,13 @@ fn ink(pen: Pen, out: &mut [u8], raw: &[u8], pre: bool) -> Pen
         let b = raw[i];
         if 0x80 <= b {
             let v = above_ascii(raw, i);
-            i = v.next;
             if blank_high(v.code, pre) {
                 p = p.pause(out);
+                i = v.next;
                 continue;
             }
-            p = p.high(out, v.code);
+            p = p.high(out, raw, i);
+            i = v.next;
             continue;
         }
         if plain(b) {

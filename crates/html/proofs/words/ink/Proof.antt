@@ -6,7 +6,7 @@ use denote.Ref.{now}
 use Prim.Native.Nat.{ℕ, _+_, _-_, _*_, _≤_, _<_}
 use mathlib.Core.Bool.{Bool}
 use lib.ListN.{length, getD}
-use Rattle.html.specs.State.{State, new, with-pre, put-all}
+use Rattle.html.specs.State.{State, new, with-pre, put, spaced, put-all}
 use Rattle.html.specs.Pen.{pen-state, blank, Unescaped}
 use Rattle.text.specs.Utf8.{utf8, chars}
 use Rattle.reference.specs.Unescape.{unescape}
@@ -94,7 +94,10 @@ high-requires c κs =
     let s = with-pre (a .pre) new in
     let t = put-all (a .pen .first) (unescape 0 (chars raw)) (pen-state s (a .pen) (now (a .out))) in
     let k = l .inv .0 s refl in
-    (omega (arith, ink-room raw s t (a .pen .len) (l .out) (l .p) (l .i) k u v, some-size raw s t (a .pen .len) (l .out) (l .p) (l .i) k u v, l .inv .1, c .before .before .before .before .before .before .before .before .before .before .pre .0), (v .scalar, c .before .before .before .above-ascii .ensures .1))
+    let w = ap (λ (x : ℕ). length (utf8 x)) (c .before .before .before .above-ascii .ensures .1) in (
+      omega (arith, ink-room raw s t (a .pen .len) (l .out) (l .p) (l .i) k u v, some-size raw s t (a .pen .len) (l .out) (l .p) (l .i) k u v, l .inv .1, c .before .before .before .before .before .before .before .before .before .before .pre .0, w),
+      (c .before .before .before .before .before .before .loop-test .taken, (k .valid, c .before .before .before .before .if1 .taken)),
+    )
 
 loop-less-2 : tie.Need-loop-less-2 Inv-loop μ-loop
 loop-less-2 c =
@@ -117,7 +120,7 @@ loop-again-2 c =
     let v = c .before .before .before .before .before .before .above-ascii .ensures .0 in (
       λ s h.
           let t = put-all (a .pen .first) (unescape 0 (chars raw)) (pen-state s (a .pen) (now (a .out))) in
-          ink-write raw s t (a .pen .len) (l .out) (l .p) (l .i) (l .inv .0 s h) u v (c .before .before .high .result) _ (ap (λ (b : Bool). blank b (u .code)) h ∙ sym (c .before .before .before .before .before .blank-high .ensures) ∙ c .before .before .before .before .if2 .left) (c .before .before .high .ensures .0 s) (c .before .before .high .ensures .1),
+          ink-write raw s t (a .pen .len) (l .out) (l .p) (l .i) (l .inv .0 s h) u v (c .before .before .high .result) _ (ap (λ (b : Bool). blank b (u .code)) h ∙ sym (c .before .before .before .before .before .blank-high .ensures) ∙ c .before .before .before .before .if2 .left) (c .before .before .high .ensures .0 s ∙ ap (λ (x : ℕ). put (l .p .first) x (spaced (pen-state s (l .p) (l .out)))) (sym (c .before .before .before .before .before .before .above-ascii .ensures .1))) (c .before .before .high .ensures .1),
       search needs,
     )
 

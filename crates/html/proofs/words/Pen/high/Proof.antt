@@ -9,24 +9,22 @@ use mathlib.Core.Bool.{false}
 use Rattle.html.specs.Struct.{out-of}
 use Rattle.html.specs.State.{State, with-out}
 use Rattle.html.specs.Pen.{pen-state}
+use Rattle.text.specs.Utf8.{code-at}
+use Rattle.html.proofs.AboveLaws.{high-code}
 use Rattle.html.proofs.StepLaws.{spaced-len}
 use Rattle.html.proofs.TextLaws.{pending-most, high-write}
 use borrow.Author.Needs.{needs}
 use Rattle.html.proofs.words.Pen.high.Statement.{statement}
 use Rattle.html.proofs.words.Pen.high.Tie as tie
-use Rattle.html.proofs.words.Pen.high.Reads as reads
-use Rattle.html.proofs.words.Pen.high.Lts as lts
-use Rattle.html.proofs.output.put_char.Reads as put-char-reads
-use Rattle.html.proofs.output.spaced.Reads as spaced-reads
 
 spaced-requires : tie.Need-spaced-requires
 spaced-requires c κs = search needs
 
-put-char-requires : tie.Need-put-char-requires
-put-char-requires c κs =
-    let a = c .before .before .before .before .before .before .args in
+copy-char-requires : tie.Need-copy-char-requires
+copy-char-requires c κs =
+    let a = c .before .before .before .before .before .before .before .args in
     let k = spaced-len (c .before .before .before .spaced .result) (a .self .len) (now (a .out)) _ (a .self .space) (c .before .before .before .spaced .ensures) in
-    (omega (arith, pending-most (a .self .space)), c .before .before .before .before .before .before .pre .1 .0)
+    (omega (arith, pending-most (a .self .space), c .before .before .before .before .before .before .before .pre .0), c .before .before .before .before .before .before .before .pre .1)
 
 same-length : tie.Need-same-length
 same-length c = search needs
@@ -34,8 +32,15 @@ same-length c = search needs
 returns : tie.Need-returns
 unfolding pen-state
 returns c =
-    let a = c .before .before .before .before .before .before .before .before .before .args in
-    (λ s. ap (λ (x : List ℕ). with-out x false s) (c .before .before .put-char .ensures ∙ ap (λ (x : List ℕ). a .c ∷ x) (c .before .before .before .before .before .before .spaced .ensures)) ∙ high-write (a .c) (c .before .before .before .before .before .before .before .before .before .pre .1 .1) (a .self .first) s (out-of (a .self .len) (now (a .out))) (a .self .space), refl)
+    let a = c .before .before .before .before .before .before .before .before .before .before .args in
+    let p = c .before .before .before .before .before .before .before .before .before .before .pre .1 in
+    let raw = now (a .raw) in
+    let x = code-at raw (a .i) in (
+      λ s.
+          ap (λ (o : List ℕ). with-out o false s) (c .before .before .copy-char .ensures ∙ ap (λ (o : List ℕ). x ∷ o) (c .before .before .before .before .before .before .spaced .ensures))
+          ∙ high-write x (high-code raw (a .i) (p .0) (p .1 .0) (p .1 .1)) (a .self .first) s (out-of (a .self .len) (now (a .out))) (a .self .space),
+      refl,
+    )
 
 pub high-spec : {M : Type 1} → statement M
-high-spec = tie.close (tie.spec spaced-requires put-char-requires same-length returns)
+high-spec = tie.close (tie.spec spaced-requires copy-char-requires same-length returns)
