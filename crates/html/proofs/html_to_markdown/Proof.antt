@@ -1,16 +1,13 @@
 -- `html_to_markdown` meets its contract.
 -- Assumes nothing.
-use mathlib.Core.Path.{_≡_, refl, sym, ap, _∙_}
+use mathlib.Core.Path.{refl, sym, _∙_}
 use native.Mathlib.Omega.{arith}
 use denote.Ref.{now}
-use Prim.Native.Nat.{ℕ, _+_, _*_, _≤_, _<_}
-use mathlib.Core.List.{List}
-use mathlib.Core.Bool.{true, false}
-use lib.ListN.{length, take}
+use lib.ListN.{length}
 use lib.Seq.{length-take-le}
 use borrow.Author.Tests.{not-true, not-false}
 use Rattle.html.specs.declared.Answer.the-variants.{Length, NotUtf8, SmallWork, SmallResult, TooManyLists}
-use Rattle.html.proofs.FinishLaws.{page-scalars, cut-small, cut-within, read-scalars, call-1, call-2, call-3, call-4, call-wrote, promised, no, yes}
+use Rattle.html.proofs.FinishLaws.{cut-small, cut-within, read-scalars, call-1, call-2, call-3, call-4, call-wrote, promised, no, yes}
 use borrow.Author.Needs.{needs}
 use Rattle.html.proofs.html_to_markdown.Statement.{statement}
 use Rattle.html.proofs.html_to_markdown.Tie as tie

@@ -1,6 +1,6 @@
 -- `Converter::block` meets its contract.
 -- Assumes nothing.
-use mathlib.Core.Path.{_≡_, refl, sym, ap, _∙_}
+use mathlib.Core.Path.{sym, ap, _∙_}
 use native.Mathlib.Omega.{arith}
 use denote.Ref.{now}
 use Prim.Native.Nat.{ℕ}
@@ -13,13 +13,6 @@ use Rattle.html.proofs.StepLaws.{empty-yes, empty-no, cleared, block-no
 use borrow.Author.Needs.{needs}
 use Rattle.html.proofs.Converter.block.Statement.{statement}
 use Rattle.html.proofs.Converter.block.Tie as tie
-use Rattle.html.proofs.Converter.block.Reads as reads
-use Rattle.html.proofs.Converter.block.Lts as lts
-use Rattle.html.proofs.output.push.Reads as push-reads
-use Rattle.html.proofs.output.push_all.Reads as push-all-reads
-use Rattle.html.proofs.output.ends_blank.Reads as ends-blank-reads
-use Rattle.html.proofs.output.line_start.Reads as line-start-reads
-use Rattle.html.proofs.output.unspaced.Reads as unspaced-reads
 
 unspaced-requires : tie.Need-unspaced-requires
 unspaced-requires c κs = search needs

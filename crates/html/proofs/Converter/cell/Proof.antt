@@ -1,14 +1,10 @@
 -- `Converter::cell` meets its contract.
 -- Assumes nothing.
-use mathlib.Core.Path.{_≡_, refl, sym, ap, _∙_}
 use Rattle.html.specs.Struct.{ended}
 use Rattle.html.specs.State.{tag}
 use borrow.Author.Needs.{needs}
 use Rattle.html.proofs.Converter.cell.Statement.{statement}
 use Rattle.html.proofs.Converter.cell.Tie as tie
-use Rattle.html.proofs.Converter.cell.Reads as reads
-use Rattle.html.proofs.Converter.cell.Lts as lts
-use Rattle.html.proofs.Converter.ended.Reads as ended-reads
 
 slice-aggregate-ended : tie.Need-slice-aggregate-ended
 slice-aggregate-ended c = search needs

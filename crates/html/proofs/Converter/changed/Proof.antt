@@ -1,6 +1,6 @@
 -- `Converter::changed` meets its contract.
 -- Assumes nothing.
-use mathlib.Core.Path.{_≡_, refl, sym, ap, _∙_}
+use mathlib.Core.Path.{ap, _∙_}
 use native.Mathlib.Omega.{arith}
 use denote.Ref.{now}
 use Rattle.html.specs.Struct.{state-of, lists-of}
@@ -10,10 +10,6 @@ use Rattle.html.specs.State.{newline, block}
 use borrow.Author.Needs.{needs}
 use Rattle.html.proofs.Converter.changed.Statement.{statement}
 use Rattle.html.proofs.Converter.changed.Tie as tie
-use Rattle.html.proofs.Converter.changed.Reads as reads
-use Rattle.html.proofs.Converter.changed.Lts as lts
-use Rattle.html.proofs.Converter.block.Reads as block-reads
-use Rattle.html.proofs.Converter.newline.Reads as newline-reads
 
 newline-requires : tie.Need-newline-requires
 newline-requires c κs = search needs

@@ -1,18 +1,15 @@
 -- `Converter::closed` meets its contract.
 -- Assumes nothing.
-use mathlib.Core.Path.{_≡_, refl, sym, ap, _∙_}
+use mathlib.Core.Path.{refl, sym, ap}
 use native.Mathlib.Omega.{arith}
-use Prim.Native.Nat.{ℕ, _+_, _-_, _*_, _≤_, _<_}
+use Prim.Native.Nat.{ℕ}
 use Rattle.html.specs.Struct.{state-of}
 use Rattle.html.proofs.StepLaws.{upto-last}
 use mathlib.Core.List.{List, tail}
-use lib.ListN.{length}
 use Rattle.html.specs.State.{with-lists}
 use borrow.Author.Needs.{needs}
 use Rattle.html.proofs.Converter.closed.Statement.{statement}
 use Rattle.html.proofs.Converter.closed.Tie as tie
-use Rattle.html.proofs.Converter.closed.Reads as reads
-use Rattle.html.proofs.Converter.closed.Lts as lts
 
 returns : tie.Need-returns
 unfolding state-of

@@ -1,14 +1,11 @@
 -- `Converter::code` meets its contract.
 -- Assumes nothing.
-use mathlib.Core.Path.{_≡_, refl, sym, ap, _∙_}
+use mathlib.Core.Path.{_∙_}
 use Rattle.html.specs.Struct.{state-of}
 use Rattle.html.proofs.StepLaws.{code-pre, code-out}
 use borrow.Author.Needs.{needs}
 use Rattle.html.proofs.Converter.code.Statement.{statement}
 use Rattle.html.proofs.Converter.code.Tie as tie
-use Rattle.html.proofs.Converter.code.Reads as reads
-use Rattle.html.proofs.Converter.code.Lts as lts
-use Rattle.html.proofs.Converter.marks.Reads as marks-reads
 
 returns : tie.Need-returns
 unfolding state-of

@@ -1,7 +1,7 @@
 -- `Converter::element` meets its contract.
 -- Assumes nothing.
 use mathlib.Core.Path.{_≡_, refl, sym, ap, ap₂, _∙_}
-use mathlib.Core.Bool.{Bool, not, _&&_}
+use mathlib.Core.Bool.{not, _&&_}
 use denote.Ref.{now}
 use Prim.Native.Nat.{ℕ}
 use mathlib.Core.Option.{some}
@@ -13,13 +13,6 @@ use Rattle.html.proofs.SkipLaws.{element-tag, element-skips, element-st
 use borrow.Author.Needs.{needs}
 use Rattle.html.proofs.Converter.element.Statement.{statement}
 use Rattle.html.proofs.Converter.element.Tie as tie
-use Rattle.html.proofs.Converter.element.Reads as reads
-use Rattle.html.proofs.Converter.element.Lts as lts
-use Rattle.html.proofs.Converter.skipping.Reads as skipping-reads
-use Rattle.html.proofs.Converter.tag.Reads as tag-reads
-use Rattle.html.proofs.names.skip_no.Reads as skip-no-reads
-use Rattle.html.proofs.names.tag_of.Reads as tag-of-reads
-use Rattle.html.proofs.names.tag_skip.Reads as tag-skip-reads
 
 tag-of-requires : tie.Need-tag-of-requires
 tag-of-requires c κs = search needs

@@ -1,19 +1,15 @@
 -- `Converter::ended` meets its contract.
 -- Assumes nothing.
-use mathlib.Core.Path.{_≡_, refl, sym, ap, _∙_}
-use native.Mathlib.Omega.{arith}
+use mathlib.Core.Path.{ap}
 use denote.Ref.{now}
-use Prim.Native.Nat.{ℕ, _+_, _-_, _*_, _^_, _≤_, _<_}
-use mathlib.Core.List.{List, [], _∷_}
+use Prim.Native.Nat.{ℕ}
+use mathlib.Core.List.{List}
 use mathlib.Core.Bool.{false}
 use Rattle.html.specs.State.{with-out}
 use Rattle.html.specs.Struct.{state-of, ended}
 use borrow.Author.Needs.{needs}
 use Rattle.html.proofs.Converter.ended.Statement.{statement}
 use Rattle.html.proofs.Converter.ended.Tie as tie
-use Rattle.html.proofs.Converter.ended.Reads as reads
-use Rattle.html.proofs.Converter.ended.Lts as lts
-use Rattle.html.proofs.output.push_all.Reads as push-all-reads
 
 push-all-requires : tie.Need-push-all-requires
 push-all-requires c κs = search needs

@@ -1,12 +1,11 @@
 -- `Converter::heading` meets its contract.
 -- Assumes nothing.
-use mathlib.Core.Path.{_≡_, refl, sym, ap, _∙_}
+use mathlib.Core.Path.{ap, _∙_}
 use native.Mathlib.Omega.{arith}
 use denote.Ref.{now}
-use Prim.Native.Nat.{ℕ, _+_, _-_, _*_, _^_, _≤_, _<_}
-use mathlib.Core.List.{List, [], _∷_, _++_}
+use Prim.Native.Nat.{ℕ}
+use mathlib.Core.List.{_++_}
 use Rattle.text.specs.Words.{repeat, str}
-use lib.ListN.{replicate}
 use Rattle.html.specs.State.{push-str, block}
 use Rattle.html.specs.Struct.{state-of, heading-of}
 use Rattle.html.proofs.GrowLaws.{grown, grow-block, times-len}
@@ -15,12 +14,6 @@ use Rattle.html.proofs.FitLaws.{level-most}
 use borrow.Author.Needs.{needs}
 use Rattle.html.proofs.Converter.heading.Statement.{statement}
 use Rattle.html.proofs.Converter.heading.Tie as tie
-use Rattle.html.proofs.Converter.heading.Reads as reads
-use Rattle.html.proofs.Converter.heading.Lts as lts
-use Rattle.html.proofs.Converter.block.Reads as block-reads
-use Rattle.html.proofs.output.push.Reads as push-reads
-use Rattle.html.proofs.output.push_times.Reads as push-times-reads
-use Rattle.html.proofs.tags.level_of.Reads as level-of-reads
 
 block-requires : tie.Need-block-requires
 block-requires c κs = search needs

@@ -1,6 +1,6 @@
 -- `Converter::inside` meets its contract.
 -- Assumes nothing.
-use mathlib.Core.Path.{_≡_, refl, sym, ap, _∙_}
+use mathlib.Core.Path.{ap, _∙_}
 use denote.Ref.{now}
 use Prim.Native.Nat.{ℕ}
 use mathlib.Core.List.{List}
@@ -11,9 +11,6 @@ use Rattle.html.proofs.SkipLaws.{inside-is}
 use borrow.Author.Needs.{needs}
 use Rattle.html.proofs.Converter.inside.Statement.{statement}
 use Rattle.html.proofs.Converter.inside.Tie as tie
-use Rattle.html.proofs.Converter.inside.Reads as reads
-use Rattle.html.proofs.Converter.inside.Lts as lts
-use Rattle.html.proofs.Converter.element.Reads as element-reads
 
 slice-aggregate-starts-with : tie.Need-slice-aggregate-starts-with
 slice-aggregate-starts-with c = search needs

@@ -1,13 +1,13 @@
 -- `Converter::item` meets its contract.
 -- Assumes nothing.
-use mathlib.Core.Path.{_≡_, refl, sym, ap, _∙_}
+use mathlib.Core.Path.{refl, ap, _∙_}
 use native.Mathlib.Omega.{arith}
 use denote.Ref.{now}
-use Prim.Native.Nat.{ℕ, _+_, _-_, _*_, _^_, _≤_, _<_}
-use mathlib.Core.List.{List, [], _∷_}
-use lib.ListN.{length, getD, replicate}
+use Prim.Native.Nat.{ℕ, _-_, _*_, _^_, _<_}
+use mathlib.Core.List.{List}
+use lib.ListN.{getD}
 use Rattle.html.specs.State.{with-out}
-use Rattle.html.specs.Struct.{state-of, lists-of, upto, number}
+use Rattle.html.specs.Struct.{state-of, lists-of, upto}
 use Rattle.text.specs.Decimal.{decimal}
 use Rattle.html.proofs.GrowLaws.{all-len, times-len, decimal-ascii}
 use Rattle.html.proofs.NumberLaws.{decimal-few}
@@ -15,11 +15,6 @@ use Rattle.html.proofs.StepLaws.{number-is, item-none, item-bullets, it
 use borrow.Author.Needs.{needs}
 use Rattle.html.proofs.Converter.item.Statement.{statement}
 use Rattle.html.proofs.Converter.item.Tie as tie
-use Rattle.html.proofs.Converter.item.Reads as reads
-use Rattle.html.proofs.Converter.item.Lts as lts
-use Rattle.html.proofs.output.push_all.Reads as push-all-reads
-use Rattle.html.proofs.output.push_number.Reads as push-number-reads
-use Rattle.html.proofs.output.push_times.Reads as push-times-reads
 
 slice-aggregate-push-all : tie.Need-slice-aggregate-push-all
 slice-aggregate-push-all c = search needs

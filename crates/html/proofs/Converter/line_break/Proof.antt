@@ -1,14 +1,10 @@
 -- `Converter::line_break` meets its contract.
 -- Assumes nothing.
-use mathlib.Core.Path.{_≡_, refl, sym, ap, _∙_}
 use Rattle.html.specs.Struct.{ended}
 use Rattle.html.specs.State.{tag}
 use borrow.Author.Needs.{needs}
 use Rattle.html.proofs.Converter.line_break.Statement.{statement}
 use Rattle.html.proofs.Converter.line_break.Tie as tie
-use Rattle.html.proofs.Converter.line_break.Reads as reads
-use Rattle.html.proofs.Converter.line_break.Lts as lts
-use Rattle.html.proofs.Converter.ended.Reads as ended-reads
 
 returns : tie.Need-returns
 unfolding tag

@@ -1,21 +1,14 @@
 -- `Converter::list` meets its contract.
 -- Assumes nothing.
-use mathlib.Core.Path.{_≡_, refl, sym, ap, _∙_}
+use mathlib.Core.Path.{refl}
 use native.Mathlib.Omega.{arith}
 use denote.Ref.{now}
-use Prim.Native.Nat.{ℕ, _+_, _-_, _*_, _^_, _≤_, _<_}
-use mathlib.Core.List.{List, _∷_}
-use Rattle.html.specs.Struct.{state-of, lists-of, tagged, list-tag}
+use Rattle.html.specs.Struct.{state-of, tagged}
 use Rattle.html.proofs.GrowLaws.{len-of}
 use Rattle.html.proofs.StepLaws.{list-closes, list-full, list-opens, depth-is}
 use borrow.Author.Needs.{needs}
 use Rattle.html.proofs.Converter.list.Statement.{statement}
 use Rattle.html.proofs.Converter.list.Tie as tie
-use Rattle.html.proofs.Converter.list.Reads as reads
-use Rattle.html.proofs.Converter.list.Lts as lts
-use Rattle.html.proofs.Converter.changed.Reads as changed-reads
-use Rattle.html.proofs.Converter.closed.Reads as closed-reads
-use Rattle.html.proofs.Converter.opened.Reads as opened-reads
 
 closed-requires : tie.Need-closed-requires
 closed-requires c κs = search needs

@@ -1,20 +1,14 @@
 -- `Converter::list_item` meets its contract.
 -- Assumes nothing.
-use mathlib.Core.Path.{_≡_, refl, sym, ap, _∙_}
+use mathlib.Core.Path.{_∙_}
 use native.Mathlib.Omega.{arith}
 use denote.Ref.{now}
-use Prim.Native.Nat.{ℕ, _+_, _-_, _*_, _^_, _≤_, _<_}
-use mathlib.Core.List.{List, _∷_}
 use Rattle.html.specs.State.{tag, newline}
 use Rattle.html.proofs.GrowLaws.{grown, grow-newline}
 use Rattle.html.proofs.StepLaws.{newline-same, like, item-tag}
 use borrow.Author.Needs.{needs}
 use Rattle.html.proofs.Converter.list_item.Statement.{statement}
 use Rattle.html.proofs.Converter.list_item.Tie as tie
-use Rattle.html.proofs.Converter.list_item.Reads as reads
-use Rattle.html.proofs.Converter.list_item.Lts as lts
-use Rattle.html.proofs.Converter.item.Reads as item-reads
-use Rattle.html.proofs.Converter.newline.Reads as newline-reads
 
 returns : tie.Need-returns
 unfolding tag

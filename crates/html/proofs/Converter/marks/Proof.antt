@@ -1,10 +1,10 @@
 -- `Converter::marks` meets its contract.
 -- Assumes nothing.
-use mathlib.Core.Path.{_≡_, refl, sym, ap, _∙_}
+use mathlib.Core.Path.{ap, _∙_}
 use native.Mathlib.Omega.{arith}
 use denote.Ref.{now}
-use Prim.Native.Nat.{ℕ, _+_, _-_, _*_, _^_, _≤_, _<_}
-use mathlib.Core.List.{List, [], _∷_}
+use Prim.Native.Nat.{ℕ}
+use mathlib.Core.List.{List}
 use mathlib.Core.Bool.{false}
 use Rattle.html.specs.State.{push-str, with-out}
 use Rattle.html.specs.Struct.{marks-of, state-of}
@@ -13,10 +13,6 @@ use Rattle.html.proofs.TextLaws.{pending-most}
 use borrow.Author.Needs.{needs}
 use Rattle.html.proofs.Converter.marks.Statement.{statement}
 use Rattle.html.proofs.Converter.marks.Tie as tie
-use Rattle.html.proofs.Converter.marks.Reads as reads
-use Rattle.html.proofs.Converter.marks.Lts as lts
-use Rattle.html.proofs.output.push_all.Reads as push-all-reads
-use Rattle.html.proofs.output.spaced.Reads as spaced-reads
 
 push-all-requires : tie.Need-push-all-requires
 push-all-requires c κs = search needs

@@ -1,6 +1,6 @@
 -- `Converter::newline` meets its contract.
 -- Assumes nothing.
-use mathlib.Core.Path.{_≡_, refl, sym, ap, _∙_}
+use mathlib.Core.Path.{sym, ap, _∙_}
 use native.Mathlib.Omega.{arith}
 use denote.Ref.{now}
 use Prim.Native.Nat.{ℕ}
@@ -13,11 +13,6 @@ use Rattle.html.proofs.StepLaws.{cleared, newline-start, newline-feed}
 use borrow.Author.Needs.{needs}
 use Rattle.html.proofs.Converter.newline.Statement.{statement}
 use Rattle.html.proofs.Converter.newline.Tie as tie
-use Rattle.html.proofs.Converter.newline.Reads as reads
-use Rattle.html.proofs.Converter.newline.Lts as lts
-use Rattle.html.proofs.output.push.Reads as push-reads
-use Rattle.html.proofs.output.line_start.Reads as line-start-reads
-use Rattle.html.proofs.output.unspaced.Reads as unspaced-reads
 
 unspaced-requires : tie.Need-unspaced-requires
 unspaced-requires c κs = search needs

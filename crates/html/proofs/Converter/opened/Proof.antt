@@ -1,19 +1,16 @@
 -- `Converter::opened` meets its contract.
 -- Assumes nothing.
-use mathlib.Core.Path.{_≡_, refl, sym, ap, _∙_}
+use mathlib.Core.Path.{ap}
 use native.Mathlib.Omega.{arith}
 use denote.Ref.{now}
-use Prim.Native.Nat.{ℕ, _+_, _-_, _*_, _^_, _≤_, _<_}
-use mathlib.Core.List.{List, _∷_}
-use lib.ListN.{length}
+use Prim.Native.Nat.{ℕ}
+use mathlib.Core.List.{List}
 use Rattle.html.specs.State.{with-lists}
 use Rattle.html.specs.Struct.{state-of}
 use Rattle.html.proofs.StepLaws.{upto-push}
 use borrow.Author.Needs.{needs}
 use Rattle.html.proofs.Converter.opened.Statement.{statement}
 use Rattle.html.proofs.Converter.opened.Tie as tie
-use Rattle.html.proofs.Converter.opened.Reads as reads
-use Rattle.html.proofs.Converter.opened.Lts as lts
 
 mul-lists : tie.Need-mul-lists
 mul-lists c = search needs

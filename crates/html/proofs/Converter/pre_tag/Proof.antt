@@ -1,15 +1,12 @@
 -- `Converter::pre_tag` meets its contract.
 -- Assumes nothing.
-use mathlib.Core.Path.{_≡_, refl, sym, ap, _∙_}
+use mathlib.Core.Path.{ap}
 use Rattle.html.specs.Struct.{state-of}
-use Rattle.html.specs.State.{State, tag, with-pre}
+use Rattle.html.specs.State.{tag, with-pre}
 use mathlib.Core.Bool.{not}
 use borrow.Author.Needs.{needs}
 use Rattle.html.proofs.Converter.pre_tag.Statement.{statement}
 use Rattle.html.proofs.Converter.pre_tag.Tie as tie
-use Rattle.html.proofs.Converter.pre_tag.Reads as reads
-use Rattle.html.proofs.Converter.pre_tag.Lts as lts
-use Rattle.html.proofs.Converter.block.Reads as block-reads
 
 block-requires : tie.Need-block-requires
 block-requires c κs = search needs

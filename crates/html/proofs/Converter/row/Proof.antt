@@ -1,13 +1,9 @@
 -- `Converter::row` meets its contract.
 -- Assumes nothing.
-use mathlib.Core.Path.{_≡_, refl, sym, ap, _∙_}
 use Rattle.html.specs.State.{tag}
 use borrow.Author.Needs.{needs}
 use Rattle.html.proofs.Converter.row.Statement.{statement}
 use Rattle.html.proofs.Converter.row.Tie as tie
-use Rattle.html.proofs.Converter.row.Reads as reads
-use Rattle.html.proofs.Converter.row.Lts as lts
-use Rattle.html.proofs.Converter.newline.Reads as newline-reads
 
 newline-requires : tie.Need-newline-requires
 newline-requires c κs = search needs

@@ -1,11 +1,9 @@
 -- `Converter::skipping` meets its contract.
 -- Assumes nothing.
-use mathlib.Core.Path.{_≡_, refl, sym, ap, _∙_}
+use mathlib.Core.Path.{refl}
 use Rattle.html.specs.Struct.{state-of}
 use Rattle.html.proofs.Converter.skipping.Statement.{statement}
 use Rattle.html.proofs.Converter.skipping.Tie as tie
-use Rattle.html.proofs.Converter.skipping.Reads as reads
-use Rattle.html.proofs.Converter.skipping.Lts as lts
 
 returns : tie.Need-returns
 unfolding state-of

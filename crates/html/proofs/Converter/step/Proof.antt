@@ -1,23 +1,12 @@
 -- `Converter::step` meets its contract.
 -- Assumes nothing.
-use mathlib.Core.Path.{_≡_, refl, sym, ap, _∙_}
+use mathlib.Core.Path.{_∙_}
 use Rattle.html.specs.Struct.{marks-of}
 use Rattle.html.specs.State.{tag, marks}
 use Rattle.html.proofs.StepLaws.{heading-tag}
 use borrow.Author.Needs.{needs}
 use Rattle.html.proofs.Converter.step.Statement.{statement}
 use Rattle.html.proofs.Converter.step.Tie as tie
-use Rattle.html.proofs.Converter.step.Reads as reads
-use Rattle.html.proofs.Converter.step.Lts as lts
-use Rattle.html.proofs.Converter.block.Reads as block-reads
-use Rattle.html.proofs.Converter.cell.Reads as cell-reads
-use Rattle.html.proofs.Converter.code.Reads as code-reads
-use Rattle.html.proofs.Converter.heading.Reads as heading-reads
-use Rattle.html.proofs.Converter.line_break.Reads as line-break-reads
-use Rattle.html.proofs.Converter.list_item.Reads as list-item-reads
-use Rattle.html.proofs.Converter.marks.Reads as marks-reads
-use Rattle.html.proofs.Converter.pre_tag.Reads as pre-tag-reads
-use Rattle.html.proofs.Converter.row.Reads as row-reads
 
 enum-known-step : tie.Need-enum-known-step
 enum-known-step c = search needs

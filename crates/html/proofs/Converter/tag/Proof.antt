@@ -1,6 +1,6 @@
 -- `Converter::tag` meets its contract.
 -- Assumes nothing.
-use mathlib.Core.Path.{_≡_, refl, sym, ap, _∙_}
+use mathlib.Core.Path.{ap, _∙_}
 use denote.Ref.{now}
 use mathlib.Core.Option.{some}
 use Rattle.html.specs.Struct.{tagged, state-of}
@@ -8,10 +8,6 @@ use Rattle.html.proofs.StepLaws.{listed-ul, listed-ol, listed-step, lis
 use borrow.Author.Needs.{needs}
 use Rattle.html.proofs.Converter.tag.Statement.{statement}
 use Rattle.html.proofs.Converter.tag.Tie as tie
-use Rattle.html.proofs.Converter.tag.Reads as reads
-use Rattle.html.proofs.Converter.tag.Lts as lts
-use Rattle.html.proofs.Converter.list.Reads as list-reads
-use Rattle.html.proofs.Converter.step.Reads as step-reads
 
 enum-told : tie.Need-enum-told
 enum-told c = search needs

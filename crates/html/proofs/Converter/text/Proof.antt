@@ -1,6 +1,6 @@
 -- `Converter::text` meets its contract.
 -- Assumes nothing.
-use mathlib.Core.Path.{_≡_, refl, sym, ap, _∙_}
+use mathlib.Core.Path.{refl}
 use denote.Ref.{now}
 use Rattle.html.specs.Struct.{state-of}
 use Rattle.html.specs.State.{text}
@@ -8,9 +8,6 @@ use Rattle.html.specs.Pen.{pen-state}
 use borrow.Author.Needs.{needs}
 use Rattle.html.proofs.Converter.text.Statement.{statement}
 use Rattle.html.proofs.Converter.text.Tie as tie
-use Rattle.html.proofs.Converter.text.Reads as reads
-use Rattle.html.proofs.Converter.text.Lts as lts
-use Rattle.html.proofs.words.ink.Reads as ink-reads
 
 ink-requires : tie.Need-ink-requires
 ink-requires c κs = search needs

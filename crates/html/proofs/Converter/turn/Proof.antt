@@ -1,22 +1,16 @@
 -- `Converter::turn` meets its contract: a turn has four ends.
 -- Assumes nothing.
-use mathlib.Core.Path.{_≡_, refl, sym, ap, _∙_}
+use mathlib.Core.Path.{sym, _∙_}
 use native.Mathlib.Omega.{arith}
 use denote.Ref.{now}
-use Prim.Native.Nat.{ℕ, _+_, _-_, _*_, _≤_, _<_}
-use lib.ListN.{length, take, drop}
+use Prim.Native.Nat.{_-_}
+use lib.ListN.{length}
 use Rattle.html.specs.Struct.{state-of, turned}
 use Rattle.text.proofs.FindLaws.{found-here}
-use Rattle.text.specs.Utf8.{chars}
 use Rattle.html.proofs.TurnLaws.{bytes-text, bytes-comment, bytes-unclosed, bytes-tag, end-after, turned-tag, part-most, rest-scalars, piece-scalars, mark-room, words-room}
 use borrow.Author.Needs.{needs}
 use Rattle.html.proofs.Converter.turn.Statement.{statement}
 use Rattle.html.proofs.Converter.turn.Tie as tie
-use Rattle.html.proofs.Converter.turn.Reads as reads
-use Rattle.html.proofs.Converter.turn.Lts as lts
-use Rattle.html.proofs.Converter.inside.Reads as inside-reads
-use Rattle.html.proofs.Converter.words.Reads as words-reads
-use Rattle.html.proofs.page.comment_end.Reads as comment-end-reads
 
 find-requires : tie.Need-find-requires
 find-requires c κs = search needs

@@ -1,6 +1,6 @@
 -- `Converter::words` meets its contract.
 -- Assumes nothing.
-use mathlib.Core.Path.{_≡_, refl, sym, ap, _∙_}
+use mathlib.Core.Path.{refl, sym, _∙_}
 use denote.Ref.{now}
 use Rattle.html.specs.Struct.{state-of}
 use Rattle.text.specs.Utf8.{chars}
@@ -8,10 +8,6 @@ use Rattle.html.proofs.SkipLaws.{words-shown, words-skipped}
 use borrow.Author.Needs.{needs}
 use Rattle.html.proofs.Converter.words.Statement.{statement}
 use Rattle.html.proofs.Converter.words.Tie as tie
-use Rattle.html.proofs.Converter.words.Reads as reads
-use Rattle.html.proofs.Converter.words.Lts as lts
-use Rattle.html.proofs.Converter.text.Reads as text-reads
-use Rattle.html.proofs.names.skip_no.Reads as skip-no-reads
 
 skip-no-requires : tie.Need-skip-no-requires
 skip-no-requires c κs = search needs

@@ -1,16 +1,12 @@
 -- `copy` meets its contract. The first i bytes are copied.
 -- Assumes nothing.
-use mathlib.Core.Path.{_≡_, refl, sym, ap, _∙_}
 use native.Mathlib.Omega.{arith}
-use denote.Ref.{now}
-use Prim.Native.Nat.{ℕ, _+_, _-_, _*_, _≤_, _<_}
+use Prim.Native.Nat.{_-_}
 use lib.ListN.{length}
 use Rattle.text.proofs.Buffer.{Filled, filled-none, filled-length}
 use Rattle.html.proofs.FinishLaws.{copy-more, copy-all}
 use Rattle.html.proofs.finish.copy.Statement.{statement}
 use Rattle.html.proofs.finish.copy.Tie as tie
-use Rattle.html.proofs.finish.copy.Reads as reads
-use Rattle.html.proofs.finish.copy.Lts as lts
 
 abbrev Inv-loop : tie.InvT-loop
 Inv-loop s to₀ i₀ to i = Filled s to₀ to i

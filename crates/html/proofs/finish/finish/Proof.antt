@@ -1,6 +1,6 @@
 -- `finish` meets its contract.
 -- Assumes nothing.
-use mathlib.Core.Path.{_≡_, refl, sym, ap, _∙_}
+use mathlib.Core.Path.{sym, ap, _∙_}
 use native.Mathlib.Omega.{arith}
 use denote.Ref.{now}
 use mathlib.Core.List.{List}
@@ -14,9 +14,6 @@ use Rattle.html.proofs.FinishLaws.{notes-is, first-most}
 use borrow.Author.Needs.{needs}
 use Rattle.html.proofs.finish.finish.Statement.{statement}
 use Rattle.html.proofs.finish.finish.Tie as tie
-use Rattle.html.proofs.finish.finish.Reads as reads
-use Rattle.html.proofs.finish.finish.Lts as lts
-use Rattle.html.proofs.finish.copy.Reads as copy-reads
 
 slice-aggregate-trim : tie.Need-slice-aggregate-trim
 slice-aggregate-trim c = sym (length-take-le _ _ (c .before .before .before .pre .0))

@@ -1,12 +1,9 @@
 -- `folded` meets its contract.
 -- Assumes nothing.
-use native.Mathlib.Omega.{arith}
 use Rattle.html.proofs.NameLaws.{folded-digit, folded-upper, folded-lower, folded-low, folded-mid, folded-gap, folded-high}
 use borrow.Author.Needs.{needs}
 use Rattle.html.proofs.names.folded.Statement.{statement}
 use Rattle.html.proofs.names.folded.Tie as tie
-use Rattle.html.proofs.names.folded.Reads as reads
-use Rattle.html.proofs.names.folded.Lts as lts
 
 add-result : tie.Need-add-result
 add-result c = search needs

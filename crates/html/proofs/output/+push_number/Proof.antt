@@ -7,7 +7,7 @@ use Rattle.text.specs.Decimal.{decimal}
 use lib.ListN.{length, length-append}
 use mathlib.Core.List.{List, [], _∷_}
 use Prim.Native.Nat.{_+_, _/_, _%_}
-use mathlib.Core.Path.{_≡_, refl, sym, ap, _∙_}
+use mathlib.Core.Path.{ap, _∙_}
 use native.Mathlib.Omega.{arith}
 use Prim.Native.Nat.{ℕ, _<_}
 use borrow.Fn.Kinds.{In}

@@ -1,8 +1,6 @@
 -- `copy_char` meets its contract.
 -- Assumes nothing.
-use mathlib.Core.Path.{_≡_, refl, sym, ap, _∙_}
 use native.Mathlib.Omega.{arith}
-use native.Mathlib.Numerals.{add-one, add-two}
 use denote.Ref.{now}
 use lib.ListN.{length-set}
 use Rattle.html.proofs.AboveLaws.{tail-1, tail-2, tail-3, copied-2, copied-3, copied-4}

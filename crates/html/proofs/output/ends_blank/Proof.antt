@@ -1,14 +1,12 @@
 -- `ends_blank` meets its contract.
 -- Assumes nothing.
-use mathlib.Core.Path.{_≡_, refl, sym, ap, _∙_}
+use mathlib.Core.Path.{sym}
 use native.Mathlib.Omega.{arith}
 use denote.Ref.{now}
 use Rattle.html.proofs.OutLaws.{blank-few, blank-other, blank-two}
 use borrow.Author.Needs.{needs}
 use Rattle.html.proofs.output.ends_blank.Statement.{statement}
 use Rattle.html.proofs.output.ends_blank.Tie as tie
-use Rattle.html.proofs.output.ends_blank.Reads as reads
-use Rattle.html.proofs.output.ends_blank.Lts as lts
 
 returns : tie.Need-returns
 returns c = let a = c .before .args in sym (blank-few (a .n) (now (a .out)) (c .if1 .taken))

@@ -1,14 +1,11 @@
 -- `ends_digit` meets its contract.
 -- Assumes nothing.
-use mathlib.Core.Path.{_≡_, refl, sym, ap, _∙_}
 use native.Mathlib.Omega.{arith}
 use denote.Ref.{now}
 use Rattle.html.proofs.OutLaws.{digit-last, digit-none}
 use borrow.Author.Needs.{needs}
 use Rattle.html.proofs.output.ends_digit.Statement.{statement}
 use Rattle.html.proofs.output.ends_digit.Tie as tie
-use Rattle.html.proofs.output.ends_digit.Reads as reads
-use Rattle.html.proofs.output.ends_digit.Lts as lts
 
 returns : tie.Need-returns
 returns c = let a = c .before .args in digit-none (a .n) (now (a .out)) (c .if1 .taken)

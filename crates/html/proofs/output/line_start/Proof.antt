@@ -1,14 +1,11 @@
 -- `line_start` meets its contract.
 -- Assumes nothing.
-use mathlib.Core.Path.{_≡_, refl, sym, ap, _∙_}
 use native.Mathlib.Omega.{arith}
 use denote.Ref.{now}
 use Rattle.html.proofs.OutLaws.{start-last, start-none}
 use borrow.Author.Needs.{needs}
 use Rattle.html.proofs.output.line_start.Statement.{statement}
 use Rattle.html.proofs.output.line_start.Tie as tie
-use Rattle.html.proofs.output.line_start.Reads as reads
-use Rattle.html.proofs.output.line_start.Lts as lts
 
 returns : tie.Need-returns
 returns c = let a = c .before .args in start-none (a .n) (now (a .out)) (c .if1 .taken)

@@ -1,13 +1,9 @@
 -- `push` meets its contract.
 -- Assumes nothing.
-use mathlib.Core.Path.{_≡_, refl, sym, ap, _∙_}
-use Rattle.html.specs.Struct.{state-of}
 use Rattle.html.proofs.OutLaws.{out-push}
 use borrow.Author.Needs.{needs}
 use Rattle.html.proofs.output.push.Statement.{statement}
 use Rattle.html.proofs.output.push.Tie as tie
-use Rattle.html.proofs.output.push.Reads as reads
-use Rattle.html.proofs.output.push.Lts as lts
 
 slice-write-out : tie.Need-slice-write-out
 slice-write-out c = search needs

@@ -1,18 +1,16 @@
 -- `push_all` meets its contract: what is left of the bytes gives the same output.
 -- Assumes nothing.
 use borrow.Author.Needs.{needs}
-use mathlib.Core.Path.{_≡_, refl, sym, ap, _∙_}
+use mathlib.Core.Path.{_≡_, refl}
 use native.Mathlib.Omega.{arith}
 use denote.Ref.{now}
 use Rattle.html.specs.Struct.{out-of}
 use Rattle.html.proofs.OutLaws.{all-more, all-done}
-use Prim.Native.Nat.{ℕ, _≤_, _+_, _-_}
-use mathlib.Core.List.{List, reverseAux}
+use Prim.Native.Nat.{_≤_, _+_, _-_}
+use mathlib.Core.List.{reverseAux}
 use lib.ListN.{length, drop, length-set}
 use Rattle.html.proofs.output.push_all.Statement.{statement}
 use Rattle.html.proofs.output.push_all.Tie as tie
-use Rattle.html.proofs.output.push_all.Reads as reads
-use Rattle.html.proofs.output.push_all.Lts as lts
 
 abbrev Inv-loop : tie.InvT-loop
 Inv-loop out₀ n bytes at₀ i₀ out at i =

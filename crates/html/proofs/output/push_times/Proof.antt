@@ -1,18 +1,15 @@
 -- `push_times` meets its contract: what is left of the bytes gives the same output.
 -- Assumes nothing.
 use borrow.Author.Needs.{needs}
-use mathlib.Core.Path.{_≡_, refl, sym, ap, _∙_}
+use mathlib.Core.Path.{_≡_, refl}
 use native.Mathlib.Omega.{arith}
-use denote.Ref.{now}
 use Rattle.html.specs.Struct.{out-of}
 use Rattle.html.proofs.OutLaws.{times-more}
-use Prim.Native.Nat.{ℕ, _≤_, _+_, _-_}
-use mathlib.Core.List.{List, reverseAux}
+use Prim.Native.Nat.{_+_}
+use mathlib.Core.List.{reverseAux}
 use lib.ListN.{length, replicate, length-set}
 use Rattle.html.proofs.output.push_times.Statement.{statement}
 use Rattle.html.proofs.output.push_times.Tie as tie
-use Rattle.html.proofs.output.push_times.Reads as reads
-use Rattle.html.proofs.output.push_times.Lts as lts
 
 abbrev Inv-loop : tie.InvT-loop
 Inv-loop out₀ n byte times at₀ left₀ out at left =

@@ -1,19 +1,15 @@
 -- `put_char` meets its contract.
 -- Assumes nothing.
-use mathlib.Core.Path.{_≡_, refl, sym, ap, _∙_}
+use mathlib.Core.Path.{ap}
 use native.Mathlib.Omega.{arith}
 use denote.Ref.{now}
-use Prim.Native.Nat.{ℕ, _+_}
 use lib.ListN.{length}
-use Rattle.text.specs.Utf8.{utf8}
 use Rattle.text.proofs.Utf8.{top, utf8-1}
 use Rattle.text.proofs.PutLaws.{put-yes}
 use Rattle.html.proofs.OutLaws.{out-push, out-put}
 use borrow.Author.Needs.{needs}
 use Rattle.html.proofs.output.put_char.Statement.{statement}
 use Rattle.html.proofs.output.put_char.Tie as tie
-use Rattle.html.proofs.output.put_char.Reads as reads
-use Rattle.html.proofs.output.put_char.Lts as lts
 
 cast-out : tie.Need-cast-out
 cast-out c = search needs

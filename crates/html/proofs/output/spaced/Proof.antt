@@ -1,14 +1,11 @@
 -- `spaced` meets its contract.
 -- Assumes nothing.
-use mathlib.Core.Path.{_≡_, refl, sym, ap, _∙_}
 use native.Mathlib.Omega.{arith}
 use denote.Ref.{now}
 use Rattle.html.proofs.OutLaws.{out-push}
 use borrow.Author.Needs.{needs}
 use Rattle.html.proofs.output.spaced.Statement.{statement}
 use Rattle.html.proofs.output.spaced.Tie as tie
-use Rattle.html.proofs.output.spaced.Reads as reads
-use Rattle.html.proofs.output.spaced.Lts as lts
 
 slice-write-out : tie.Need-slice-write-out
 slice-write-out c = search needs

@@ -6,12 +6,10 @@ use native.Mathlib.Omega.{arith}
 use denote.Ref.{now}
 use Rattle.html.specs.Struct.{out-of}
 use Rattle.html.proofs.OutLaws.{spaces-more, spaces-stop, out-none}
-use Prim.Native.Nat.{ℕ, _≤_, _+_, _-_}
+use Prim.Native.Nat.{_≤_}
 use Rattle.text.specs.Words.{drop-while, is}
 use Rattle.html.proofs.output.unspaced.Statement.{statement}
 use Rattle.html.proofs.output.unspaced.Tie as tie
-use Rattle.html.proofs.output.unspaced.Reads as reads
-use Rattle.html.proofs.output.unspaced.Lts as lts
 
 abbrev Inv-loop : tie.InvT-loop
 Inv-loop out len n₀ n = (n ≤ len) × (drop-while (is " ") (out-of n out) ≡ drop-while (is " ") (out-of len out))

@@ -1,9 +1,9 @@
 -- `comment_end` meets its contract: from each offset on, the rest is closed where all of it is.
 -- Assumes nothing.
-use mathlib.Core.Path.{_≡_, refl, sym, ap, _∙_}
+use mathlib.Core.Path.{_≡_, refl, sym, _∙_}
 use native.Mathlib.Omega.{arith}
 use denote.Ref.{now}
-use Prim.Native.Nat.{ℕ, _+_, _-_, _≤_, _<_}
+use Prim.Native.Nat.{_+_, _-_, _≤_}
 use lib.ListN.{length, drop}
 use lib.Seq.{drop-length}
 use Rattle.html.specs.Struct.{closed}
@@ -12,8 +12,6 @@ use Rattle.html.proofs.CloseLaws.{closed-none, closed-from, closed-here
 use borrow.Author.Needs.{needs}
 use Rattle.html.proofs.page.comment_end.Statement.{statement}
 use Rattle.html.proofs.page.comment_end.Tie as tie
-use Rattle.html.proofs.page.comment_end.Reads as reads
-use Rattle.html.proofs.page.comment_end.Lts as lts
 
 abbrev Inv-loop : tie.InvT-loop
 Inv-loop html i j₀ t6 j = (closed (drop j html) ≡ closed (drop i html)) × ((i ≤ j) × (j ≤ length html))

@@ -1,21 +1,16 @@
 -- `convert` meets its contract: from each turn on, the rest of the page makes what all of it makes.
 -- Assumes nothing.
 use borrow.Author.Needs.{needs}
-use mathlib.Core.Path.{_≡_, refl, sym, ap, _∙_}
+use mathlib.Core.Path.{_≡_, refl}
 use native.Mathlib.Omega.{arith}
 use denote.Ref.{now}
-use Prim.Native.Nat.{ℕ, _+_, _-_, _*_, _^_, _≤_, _<_}
+use Prim.Native.Nat.{ℕ, _-_}
 use lib.ListN.{length}
-use Rattle.html.specs.Struct.{state-of, tagged}
-use mathlib.Core.Bool.{true, false}
+use Rattle.html.specs.Struct.{tagged}
 use borrow.Author.Tests.{not-true, not-false}
 use Rattle.html.proofs.LoopLaws.{Going, going-new, len-most, few-lists, small-number, going-full, going-end, going-refused, going-next}
 use Rattle.html.proofs.page.convert.Statement.{statement}
 use Rattle.html.proofs.page.convert.Tie as tie
-use Rattle.html.proofs.page.convert.Reads as reads
-use Rattle.html.proofs.page.convert.Lts as lts
-use Rattle.html.proofs.Converter.new.Reads as new-reads
-use Rattle.html.proofs.Converter.turn.Reads as turn-reads
 
 abbrev Inv-loop : tie.InvT-loop
 Inv-loop lists₀ out₀ html c₀ at₀ lists out c at = Going html lists out c at × ((length out ≡ length out₀) × (length lists ≡ length lists₀))

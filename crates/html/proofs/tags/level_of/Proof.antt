@@ -1,11 +1,8 @@
 -- `level_of` meets its contract.
 -- Assumes nothing.
-use mathlib.Core.Path.{_≡_, refl, sym, ap, _∙_}
 use borrow.Author.Tests.{lt-ltb, le-ltb}
 use Rattle.html.proofs.tags.level_of.Statement.{statement}
 use Rattle.html.proofs.tags.level_of.Tie as tie
-use Rattle.html.proofs.tags.level_of.Reads as reads
-use Rattle.html.proofs.tags.level_of.Lts as lts
 
 returns : tie.Need-returns
 returns c = rw (lt-ltb _ _ (c .if1 .taken))

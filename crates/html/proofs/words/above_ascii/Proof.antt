@@ -1,15 +1,11 @@
 -- `above_ascii` meets its contract.
 -- Assumes nothing.
-use mathlib.Core.Path.{_≡_, refl, sym, ap, _∙_}
 use native.Mathlib.Omega.{arith}
 use denote.Ref.{now}
-use Prim.Native.Nat.{ℕ, _+_, _-_, _*_, _≤_, _<_}
 use Rattle.html.proofs.AboveLaws.{lead, tail-1, tail-2, tail-3, above-2, above-3, above-4}
 use borrow.Author.Needs.{needs}
 use Rattle.html.proofs.words.above_ascii.Statement.{statement}
 use Rattle.html.proofs.words.above_ascii.Tie as tie
-use Rattle.html.proofs.words.above_ascii.Reads as reads
-use Rattle.html.proofs.words.above_ascii.Lts as lts
 
 shared-slice-read-a : tie.Need-shared-slice-read-a
 shared-slice-read-a c = search needs

@@ -4,8 +4,6 @@ use Rattle.html.specs.Pen.{blank}
 use borrow.Author.Needs.{needs}
 use Rattle.html.proofs.words.blank.Statement.{statement}
 use Rattle.html.proofs.words.blank.Tie as tie
-use Rattle.html.proofs.words.blank.Reads as reads
-use Rattle.html.proofs.words.blank.Lts as lts
 
 is-space-requires : tie.Need-is-space-requires
 is-space-requires c κs = search needs

@@ -1,15 +1,12 @@
 -- `blank_high` meets its contract.
 -- Assumes nothing.
-use mathlib.Core.Path.{_≡_, refl, sym, ap, _∙_}
+use mathlib.Core.Path.{sym, ap}
 use mathlib.Core.Bool.{Bool, not, _&&_}
 use Rattle.text.proofs.TrimLaws.{space-far}
 use Rattle.html.specs.Pen.{blank}
 use borrow.Author.Needs.{needs}
 use Rattle.html.proofs.words.blank_high.Statement.{statement}
 use Rattle.html.proofs.words.blank_high.Tie as tie
-use Rattle.html.proofs.words.blank_high.Reads as reads
-use Rattle.html.proofs.words.blank_high.Lts as lts
-use Rattle.html.proofs.words.blank.Reads as blank-reads
 
 returns : tie.Need-returns
 unfolding blank

@@ -1,9 +1,9 @@
 -- `blanks_end` meets its contract: from each space on, what is left is the same.
 -- Assumes nothing.
-use mathlib.Core.Path.{_≡_, refl, sym, ap, _∙_}
+use mathlib.Core.Path.{_≡_, refl, sym, _∙_}
 use native.Mathlib.Omega.{arith}
 use denote.Ref.{now}
-use Prim.Native.Nat.{ℕ, _+_, _-_, _≤_, _<_}
+use Prim.Native.Nat.{_-_, _≤_}
 use lib.ListN.{length, drop}
 use Rattle.text.specs.Words.{drop-while}
 use Rattle.html.specs.Pen.{ascii-space}
@@ -11,8 +11,6 @@ use Rattle.html.proofs.TextLaws.{blanks-end, blanks-stop, blanks-more}
 use borrow.Author.Needs.{needs}
 use Rattle.html.proofs.words.blanks_end.Statement.{statement}
 use Rattle.html.proofs.words.blanks_end.Tie as tie
-use Rattle.html.proofs.words.blanks_end.Reads as reads
-use Rattle.html.proofs.words.blanks_end.Lts as lts
 
 abbrev Inv-loop : tie.InvT-loop
 Inv-loop raw i j₀ j = (drop-while ascii-space (drop j raw) ≡ drop-while ascii-space (drop i raw)) × ((i ≤ j) × (j ≤ length raw))

@@ -1,18 +1,12 @@
 -- `escapes` meets its contract.
 -- Assumes nothing.
-use mathlib.Core.Path.{_≡_, refl, sym, ap, _∙_}
+use mathlib.Core.Path.{sym, _∙_}
 use denote.Ref.{now}
 use Rattle.html.specs.Struct.{out-of}
 use Rattle.html.proofs.TextLaws.{escape-special, escape-opens, escape-other, escape-first, escape-later}
 use borrow.Author.Needs.{needs}
 use Rattle.html.proofs.words.escapes.Statement.{statement}
 use Rattle.html.proofs.words.escapes.Tie as tie
-use Rattle.html.proofs.words.escapes.Reads as reads
-use Rattle.html.proofs.words.escapes.Lts as lts
-use Rattle.html.proofs.output.ends_digit.Reads as ends-digit-reads
-use Rattle.html.proofs.output.line_start.Reads as line-start-reads
-use Rattle.html.proofs.words.opens.Reads as opens-reads
-use Rattle.html.proofs.words.special.Reads as special-reads
 
 special-requires : tie.Need-special-requires
 special-requires c κs = search needs

@@ -3,7 +3,7 @@
 use mathlib.Core.Path.{_≡_, refl, sym, ap, _∙_}
 use native.Mathlib.Omega.{arith}
 use denote.Ref.{now}
-use Prim.Native.Nat.{ℕ, _+_, _-_, _*_, _≤_, _<_}
+use Prim.Native.Nat.{ℕ, _+_, _-_}
 use mathlib.Core.Bool.{Bool}
 use lib.ListN.{length, getD}
 use Rattle.html.specs.State.{State, new, with-pre, put, spaced, put-all}
@@ -14,18 +14,6 @@ use Rattle.html.proofs.TextLaws.{Inking, pending-most, some-size, ink-r
 use borrow.Author.Needs.{needs}
 use Rattle.html.proofs.words.ink.Statement.{statement}
 use Rattle.html.proofs.words.ink.Tie as tie
-use Rattle.html.proofs.words.ink.Reads as reads
-use Rattle.html.proofs.words.ink.Lts as lts
-use Rattle.html.proofs.words.Pen.high.Reads as high-reads
-use Rattle.html.proofs.words.Pen.letter.Reads as letter-reads
-use Rattle.html.proofs.words.Pen.pause.Reads as pause-reads
-use Rattle.html.proofs.words.Pen.write.Reads as write-reads
-use Rattle.html.proofs.words.above_ascii.Reads as above-ascii-reads
-use Rattle.html.proofs.words.blank.Reads as blank-reads
-use Rattle.html.proofs.words.blank_high.Reads as blank-high-reads
-use Rattle.html.proofs.words.blanks_end.Reads as blanks-end-reads
-use Rattle.html.proofs.words.plain.Reads as plain-reads
-use Rattle.html.proofs.words.unescaped.Reads as unescaped-reads
 
 abbrev Inv-loop : tie.InvT-loop
 Inv-loop out₀ raw pre p₀ i₀ out p i =

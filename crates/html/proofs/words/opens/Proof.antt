@@ -5,8 +5,6 @@ use Rattle.html.specs.Pen.{opens}
 use Rattle.html.proofs.TextLaws.{five}
 use Rattle.html.proofs.words.opens.Statement.{statement}
 use Rattle.html.proofs.words.opens.Tie as tie
-use Rattle.html.proofs.words.opens.Reads as reads
-use Rattle.html.proofs.words.opens.Lts as lts
 
 returns : tie.Need-returns
 unfolding opens

@@ -5,8 +5,6 @@ use Rattle.html.specs.State.{special}
 use Rattle.html.proofs.TextLaws.{five}
 use Rattle.html.proofs.words.special.Statement.{statement}
 use Rattle.html.proofs.words.special.Tie as tie
-use Rattle.html.proofs.words.special.Reads as reads
-use Rattle.html.proofs.words.special.Lts as lts
 
 returns : tie.Need-returns
 unfolding special

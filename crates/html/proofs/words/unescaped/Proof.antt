@@ -1,16 +1,11 @@
 -- `unescaped` meets its contract.
 -- Assumes nothing.
-use mathlib.Core.Path.{_≡_, refl, sym, ap, _∙_}
 use native.Mathlib.Omega.{arith}
 use denote.Ref.{now}
-use Prim.Native.Nat.{ℕ}
 use Rattle.html.proofs.TextLaws.{piece-left, piece-replaced, replaced-bound, piece-ascii}
 use borrow.Author.Needs.{needs}
 use Rattle.html.proofs.words.unescaped.Statement.{statement}
 use Rattle.html.proofs.words.unescaped.Tie as tie
-use Rattle.html.proofs.words.unescaped.Reads as reads
-use Rattle.html.proofs.words.unescaped.Lts as lts
-use Rattle.reference.proofs.reference.Reads as reference-reads
 
 shared-slice-read-b : tie.Need-shared-slice-read-b
 shared-slice-read-b c = search needs

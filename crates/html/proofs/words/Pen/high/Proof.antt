@@ -1,13 +1,13 @@
 -- `Pen::high` meets its contract.
 -- Assumes nothing.
-use mathlib.Core.Path.{_≡_, refl, sym, ap, _∙_}
+use mathlib.Core.Path.{refl, ap, _∙_}
 use native.Mathlib.Omega.{arith}
 use denote.Ref.{now}
 use Prim.Native.Nat.{ℕ}
 use mathlib.Core.List.{List, _∷_}
 use mathlib.Core.Bool.{false}
 use Rattle.html.specs.Struct.{out-of}
-use Rattle.html.specs.State.{State, with-out}
+use Rattle.html.specs.State.{with-out}
 use Rattle.html.specs.Pen.{pen-state}
 use Rattle.text.specs.Utf8.{code-at}
 use Rattle.html.proofs.AboveLaws.{high-code}

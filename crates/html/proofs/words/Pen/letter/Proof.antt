@@ -1,26 +1,22 @@
 -- `Pen::letter` meets its contract.
 -- Assumes nothing.
-use mathlib.Core.Path.{_≡_, refl, sym, ap, _∙_}
+use mathlib.Core.Path.{refl, ap, _∙_}
 use native.Mathlib.Omega.{arith}
 use denote.Ref.{now}
-use Prim.Native.Nat.{ℕ, _≤_}
+use Prim.Native.Nat.{ℕ}
 use mathlib.Core.Logic.{inl}
 use mathlib.Core.List.{List, _∷_}
 use mathlib.Core.Bool.{false}
 use lib.ListN.{length}
 use Rattle.text.proofs.Utf8.{utf8-1}
 use Rattle.html.specs.Struct.{out-of}
-use Rattle.html.specs.State.{State, with-out}
+use Rattle.html.specs.State.{with-out}
 use Rattle.html.specs.Pen.{pen-state}
 use Rattle.html.proofs.StepLaws.{spaced-len}
 use Rattle.html.proofs.TextLaws.{pending-most, plain-ascii, plain-write}
 use borrow.Author.Needs.{needs}
 use Rattle.html.proofs.words.Pen.letter.Statement.{statement}
 use Rattle.html.proofs.words.Pen.letter.Tie as tie
-use Rattle.html.proofs.words.Pen.letter.Reads as reads
-use Rattle.html.proofs.words.Pen.letter.Lts as lts
-use Rattle.html.proofs.output.put_char.Reads as put-char-reads
-use Rattle.html.proofs.output.spaced.Reads as spaced-reads
 
 spaced-requires : tie.Need-spaced-requires
 spaced-requires c κs = search needs

@@ -1,6 +1,6 @@
 -- `Pen::pause` meets its contract.
 -- Assumes nothing.
-use mathlib.Core.Path.{_≡_, refl, sym, ap, _∙_}
+use mathlib.Core.Path.{refl, ap}
 use denote.Ref.{now}
 use mathlib.Core.Bool.{Bool, not}
 use Rattle.html.specs.Pen.{pen-state, paused}
@@ -9,9 +9,6 @@ use Rattle.html.specs.State.{with-out}
 use borrow.Author.Needs.{needs}
 use Rattle.html.proofs.words.Pen.pause.Statement.{statement}
 use Rattle.html.proofs.words.Pen.pause.Tie as tie
-use Rattle.html.proofs.words.Pen.pause.Reads as reads
-use Rattle.html.proofs.words.Pen.pause.Lts as lts
-use Rattle.html.proofs.output.line_start.Reads as line-start-reads
 
 line-start-requires : tie.Need-line-start-requires
 line-start-requires c κs = search needs

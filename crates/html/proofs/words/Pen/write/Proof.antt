@@ -1,13 +1,13 @@
 -- `Pen::write` meets its contract.
 -- Assumes nothing.
-use mathlib.Core.Path.{_≡_, refl, sym, ap, _∙_}
+use mathlib.Core.Path.{refl, sym, ap, _∙_}
 use native.Mathlib.Omega.{arith}
 use denote.Ref.{now}
 use Prim.Native.Nat.{ℕ}
 use mathlib.Core.List.{List, _∷_}
 use mathlib.Core.Bool.{true, false}
 use Rattle.html.specs.Struct.{out-of, with-space}
-use Rattle.html.specs.State.{State, with-out, escape}
+use Rattle.html.specs.State.{with-out, escape}
 use Rattle.html.specs.Pen.{pen-state}
 use mathlib.Core.Logic.{inl}
 use lib.ListN.{length}
@@ -17,11 +17,6 @@ use Rattle.html.proofs.TextLaws.{pending-most, write-plain, write-escap
 use borrow.Author.Needs.{needs}
 use Rattle.html.proofs.words.Pen.write.Statement.{statement}
 use Rattle.html.proofs.words.Pen.write.Tie as tie
-use Rattle.html.proofs.words.Pen.write.Reads as reads
-use Rattle.html.proofs.words.Pen.write.Lts as lts
-use Rattle.html.proofs.output.put_char.Reads as put-char-reads
-use Rattle.html.proofs.output.spaced.Reads as spaced-reads
-use Rattle.html.proofs.words.escapes.Reads as escapes-reads
 
 spaced-requires : tie.Need-spaced-requires
 spaced-requires c κs = search needs
