@@ -1,6 +1,6 @@
 -- What the loop over a page keeps: at most 64 lists are open, a list's number grows by at most one a turn, and the output stays below a bound.
 -- Assumes nothing.
-use Prim.Native.Nat.{ℕ, zero, suc, _+_, _-_, _*_, _^_, _≤_, _<_}
+use Prim.Native.Nat.{ℕ, zero, suc, _+_, _-_, _*_, _^_, _≤_, _<_, min}
 use native.Mathlib.Omega.{arith}
 use mathlib.Core.Path.{_≡_, refl, sym, ap, _∙_, subst}
 use mathlib.Core.Bool.{Bool, true, false, not, _&&_, _||_}
@@ -16,9 +16,9 @@ use Rattle.text.specs.Decimal.{decimal}
 use Rattle.text.proofs.Tests.{on}
 use Rattle.text.proofs.Utf8.{utf8-1}
 use Rattle.text.proofs.Laws.{size-append}
-use Rattle.html.specs.State.{State, new, with-out, with-lists, with-skip, push-str, block, newline, spaced, marks, list-changed, item, tag, tag-of, text}
+use Rattle.html.specs.State.{State, new, with-out, with-lists, with-skip, push-str, block, newline, spaced, marks, list-changed, item, heading, tag, tag-of, text}
 use Rattle.html.specs.Page.{listed, shown, skipped, element, inside, words, Turn, read, refused, tag-read, comment, a-tag, markup, turn}
-use Rattle.html.specs.Struct.{tag-means, step-means, level-of, heading-of, list-tag, marks-of, number}
+use Rattle.html.specs.Struct.{tag-means, step-means, list-tag, number}
 use Rattle.html.specs.Names.{says}
 use Rattle.html.specs.declared.Tag.{Tag}
 use Rattle.html.specs.declared.Tag.the-variants.{Ul, Ol, Skipped, Writes}
@@ -27,7 +27,7 @@ use Rattle.html.specs.declared.Step.the-variants.{Heading, Block, Pre, B
 use Rattle.html.proofs.OutLaws.{size-aux}
 use Rattle.html.proofs.NumberLaws.{decimal-few}
 use Rattle.html.proofs.GrowLaws.{size-ascii, decimal-ascii, grow-str, grow-times, grow-block, grow-newline, grow-marks}
-use Rattle.html.proofs.StepLaws.{block-lists, newline-lists, spaced-lists, heading-tag, heading-open, listed-ul, listed-ol, listed-step, listed-other}
+use Rattle.html.proofs.StepLaws.{block-lists, newline-lists, spaced-lists, heading-open, listed-ul, listed-ol, listed-step, listed-other}
 use Rattle.html.proofs.NameLaws.{says-means}
 use Rattle.html.proofs.TextLaws.{text-size, text-lists}
 
@@ -87,30 +87,27 @@ item-fit m n c f b =
     }
 
 -- ---- the tags that only write
-pub level-most : (n : ℕ) → level-of n ≤ 3
-level-most n = on (λ (k : ℕ). k ≤ 3) (ltb n 3) (λ e. omega (arith, ltb-true n 3 e)) (λ _. omega arith)
-
-heading-size : (n : ℕ) (closing : Bool) (c : State) → size (heading-of n closing c .out) ≤ size (c .out) + 149
-unfolding heading-of
+heading-size : (n : ℕ) (closing : Bool) (c : State) → size (tag (heading n) closing c .out) ≤ size (c .out) + 149
+unfolding tag
 heading-size n true c = omega (arith, grow-block c)
 heading-size n false c =
-    let k = level-of n in
+    let k = min n 3 in
     omega
-    (arith, ap (λ (d : State). size (d .out)) (heading-open k (block c)), grow-str (32 ∷ []) (omega arith, tt) (push-str (replicate k 35) (block c)), grow-times k 35 (omega arith) (block c), grow-block c, level-most n)
+    (arith, ap (λ (d : State). size (d .out)) (heading-open k (block c)), grow-str (32 ∷ []) (omega arith, tt) (push-str (replicate k 35) (block c)), grow-times k 35 (omega arith) (block c), grow-block c)
 
-heading-lists : (n : ℕ) (closing : Bool) (c : State) → heading-of n closing c .lists ≡ c .lists
-unfolding heading-of
+heading-lists : (n : ℕ) (closing : Bool) (c : State) → tag (heading n) closing c .lists ≡ c .lists
+unfolding tag
 heading-lists n true c = block-lists c
 heading-lists n false c = block-lists c
 
-marks-lists : (m : List ℕ) (closing : Bool) (c : State) → marks-of m closing c .lists ≡ c .lists
-unfolding marks-of
+marks-lists : (m : List ℕ) (closing : Bool) (c : State) → marks m closing c .lists ≡ c .lists
+unfolding marks
 marks-lists m true c = refl
 marks-lists m false c = spaced-lists c
 
 step-fit : (m n : ℕ) (t : Step) (closing : Bool) (c : State) → Fit m n c → m < 2 ^ 64 → Fit (m + 1) (n + 149) (tag (step-means t) closing c)
-unfolding tag marks marks-of size
-step-fit m n (Heading k) closing c f b = subst (Fit (m + 1) (n + 149)) (heading-tag k closing c) (like m n c f 149 _ (heading-lists k closing c) (heading-size k closing c))
+unfolding tag size
+step-fit m n (Heading k) closing c f b = like m n c f 149 _ (heading-lists k closing c) (heading-size k closing c)
 step-fit m n Block closing c f b = like m n c f 149 _ (block-lists c) (omega (arith, grow-block c))
 step-fit m n Pre closing c f b = like m n c f 149 _ (block-lists c) (omega (arith, grow-block c))
 step-fit m n Break true c f b = like m n c f 149 c refl (omega arith)

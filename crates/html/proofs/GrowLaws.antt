@@ -15,8 +15,8 @@ use Rattle.text.proofs.Tests.{on}
 use Rattle.text.proofs.Utf8.{utf8-1}
 use Rattle.text.proofs.Laws.{utf8-size}
 use Rattle.text.proofs.AsciiLaws.{Ascii}
-use Rattle.html.specs.State.{State, with-out, push-str, line-start, block, newline, spaced}
-use Rattle.html.specs.Struct.{state-of, out-of, marks-of}
+use Rattle.html.specs.State.{State, with-out, push-str, line-start, block, newline, spaced, marks}
+use Rattle.html.specs.Struct.{state-of, out-of}
 use Rattle.html.specs.declared.Converter.{Converter}
 use Rattle.html.proofs.OutLaws.{size-out, size-aux}
 
@@ -102,8 +102,8 @@ grow-spaced c =
     let f = ap length (utf8-1 32 (omega arith)) in
     on (Most (size (c .out) + 1)) (c .space) (λ _. omega arith) (λ _. omega arith)
 
-pub grow-marks : (m : List ℕ) → Ascii m → (closing : Bool) (c : State) → size (marks-of m closing c .out) ≤ size (c .out) + (1 + length m)
-unfolding marks-of
+pub grow-marks : (m : List ℕ) → Ascii m → (closing : Bool) (c : State) → size (marks m closing c .out) ≤ size (c .out) + (1 + length m)
+unfolding marks
 grow-marks m a closing c =
     let h = on (Most (size (c .out) + 1)) closing {x = c} {y = spaced c} (λ _. omega arith) (λ _. grow-spaced c) in
     omega (arith, grow-str m a (if closing then c else spaced c), h)

@@ -23,7 +23,8 @@ use Rattle.text.proofs.AsciiLaws.{chars-ascii, chars-high}
 use Rattle.html.specs.State as state
 use Rattle.html.specs.State.{tags, tag-of, other}
 use Rattle.html.specs.Struct.{tag-means}
-use Rattle.html.specs.Names.{name-of, folded, digits, key, Rows, find, writing, table, says, tag-skip, skip-no}
+use Rattle.html.specs.Page.{name-of}
+use Rattle.html.specs.Names.{folded, digits, key, Rows, find, writing, table, says, tag-skip, skip-no}
 use Rattle.html.specs.declared.Skip.the-variants.{Script, Style}
 use Rattle.html.specs.declared.Tag.{Tag}
 use Rattle.html.specs.declared.Tag.the-variants.{Skipped, Writes}
@@ -60,7 +61,7 @@ folded-high b l = simp (le-leb 48 b (omega arith), lt-leb b 57 (omega arith), le
 
 -- ---- one byte: a letter or digit goes on, folded is not 0
 name-cons : (b : ℕ) (s : List ℕ) → name-of (b ∷ s) ≡ cond (is-alphanumeric b) (to-lower b ∷ name-of s) []
-unfolding name-of take-while
+unfolding take-while
 name-cons b s = go (is-alphanumeric b)
   where
     go : (t : Bool) → map to-lower (cond t (b ∷ take-while is-alphanumeric s) []) ≡ cond t (to-lower b ∷ map to-lower (take-while is-alphanumeric s)) []
@@ -93,7 +94,7 @@ fold-yes b s n =
     (decide (is-alphanumeric b))
 
 name-nil : name-of [] ≡ []
-unfolding name-of take-while
+unfolding take-while
 name-nil = refl
 
 -- ---- the name from i on

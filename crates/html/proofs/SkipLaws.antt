@@ -14,9 +14,9 @@ use Rattle.text.specs.Utf8.{chars}
 use Rattle.text.proofs.Tests.{same-true, and-true}
 use Rattle.text.proofs.AsciiLaws.{starts-chars}
 use Rattle.html.specs.State.{State, with-skip, tag-of, text}
-use Rattle.html.specs.Page.{listed, shown, skipped, element, inside, words}
+use Rattle.html.specs.Page.{name-of, listed, shown, skipped, element, inside, words}
 use Rattle.html.specs.Struct.{skip-name, tag-means}
-use Rattle.html.specs.Names.{name-of, says, tag-skip, skip-no}
+use Rattle.html.specs.Names.{says, tag-skip, skip-no}
 use Rattle.html.specs.declared.Skip.{Skip}
 use Rattle.html.specs.declared.Skip.the-variants.{Nothing, Script, Style}
 use Rattle.html.specs.declared.Tag.{Tag}
@@ -130,7 +130,7 @@ module _ (n : List ℕ) (c : State) (t : Tag) (q : t ≡ says n) where
 
 -- ---- `inside`, on bytes
 pub inside-is : (bs : List ℕ) (c : State) (t : Bool) → t ≡ starts "/" bs → element t (name-of (drop (boolByte t) bs)) c ≡ inside (chars bs) c
-unfolding inside name-of
+unfolding inside
 inside-is bs c true e =
     rw (starts-chars (47 ∷ []) bs (omega arith, tt) ∙ sym e)
     (ap (λ (l : List ℕ). element true l c) (sym (name-chars (drop 1 bs)) ∙ ap name-of (drop-chars (47 ∷ []) bs (omega arith, tt) (sym e))))

@@ -19,7 +19,7 @@ use Rattle.text.specs.Decimal.{decimal}
 use Rattle.text.proofs.Tests.{on}
 use Rattle.html.specs.State.{State, with-out, with-lists, with-pre, push-str, line-start, block, newline, spaced, marks, list-changed, item, tag, ul, ol, other, code, Tag}
 use Rattle.html.specs.Page.{listed, is-list}
-use Rattle.html.specs.Struct.{state-of, out-of, upto, lists-of, number, with-space, unspaced, marks-of, ended, heading-of, list-tag, step-means}
+use Rattle.html.specs.Struct.{state-of, out-of, upto, lists-of, number, with-space, unspaced, ended, list-tag, step-means}
 use Rattle.html.specs.declared.Converter.{Converter}
 use Rattle.html.specs.declared.Step.{Step}
 use Rattle.html.specs.declared.Step.the-variants.{Heading, Block, Pre, Break, Item, Row, Cell, Strong, Emphasis, Code, Other}
@@ -212,11 +212,6 @@ pub listed-other : (closing : Bool) (c : State) → some c ≡ listed other clos
 unfolding tag
 listed-other closing c = no-list other closing c refl
 
-pub heading-tag : (n : ℕ) (closing : Bool) (c : State) → heading-of n closing c ≡ tag (step-means (Heading n)) closing c
-unfolding heading-of tag
-heading-tag n true c = refl
-heading-tag n false c = refl
-
 pub heading-open : (k : ℕ) (b : State) → push-str (32 ∷ []) (push-str (replicate k 35) b) ≡ push-str (repeat k "#" ++ str " ") b
 heading-open k b = rw (reverseAux-append (repeat k "#") (32 ∷ []) (b .out), hashes-is k (b .out))
 
@@ -233,11 +228,11 @@ heading-written b l w w1 w2 k i m c e f g =
 -- `code` in and outside `pre`
 pub code-pre : (closing : Bool) (c : State) → c .pre ≡ true → c ≡ tag code closing c
 unfolding tag
-code-pre closing c h = sym (ap (λ (t : Bool). if t then c else marks "`" closing c) h)
+code-pre closing c h = sym (ap (λ (t : Bool). if t then c else marks (str "`") closing c) h)
 
-pub code-out : (closing : Bool) (c : State) → c .pre ≡ false → marks-of (96 ∷ []) closing c ≡ tag code closing c
-unfolding tag marks marks-of
-code-out closing c h = sym (ap (λ (t : Bool). if t then c else marks "`" closing c) h)
+pub code-out : (closing : Bool) (c : State) → c .pre ≡ false → marks (96 ∷ []) closing c ≡ tag code closing c
+unfolding tag
+code-out closing c h = sym (ap (λ (t : Bool). if t then c else marks (str "`") closing c) h)
 
 -- ---- what the calls of `list` and `item` answered, put together
 pub list-closes : (first : ℕ) (a k r : Converter) (l w w' : List ℕ) → state-of k l w ≡ with-lists (tail (lists-of a l)) (state-of a l w)

@@ -11,11 +11,11 @@ use mathlib.Core.List.{List, [], _∷_, _++_, reverseAux, append-cancel-left}
 use lib.Dec.{eqb, ltb}
 use lib.ListN.{length, getD, take, drop, drop-of-length-le}
 use lib.Seq.{take-suc, drop-cons}
-use borrow.Author.Tests.{eq-eqb, ne-eqb, eqb-true, ltb-true, ltb-false}
+use borrow.Author.Tests.{eq-eqb, ne-eqb, eqb-true, ltb-true, ltb-false, lt-ltb, le-ltb}
 use Rattle.text.specs.Words.{if_then_else_, is, matches, str, drop-while}
-use Rattle.text.specs.Chars.{within, is-space, is-alphanumeric}
+use Rattle.text.specs.Chars.{within, is-ascii, is-space, is-alphanumeric}
 use Rattle.text.specs.Utf8.{IsScalar, Scalars, utf8, size, chars, code-at}
-use Rattle.text.proofs.Tests.{decide, on, or-elim, and-false, within-true, within-is, within-above, within-below, or-right}
+use Rattle.text.proofs.Tests.{decide, on, false-true, or-elim, and-true, and-false, within-true, within-is, within-above, within-below, or-right}
 use Rattle.text.proofs.Utf8.{utf8-1}
 use Rattle.text.proofs.AsciiLaws.{chars-ascii}
 use Rattle.text.proofs.Laws.{turn-is, utf8-size, advance-end, advance-ascii}
@@ -24,9 +24,9 @@ use Rattle.reference.specs.Answers.{answer}
 use Rattle.reference.specs.declared.Ampersand.{Ampersand}
 use Rattle.reference.specs.declared.Ampersand.the-variants.{Replaced, Left}
 use Rattle.reference.proofs.Laws.{left-at, replaced-at, read-is, unescape-nil, unescape-other, unescape-size}
-use Rattle.html.specs.State.{State, with-out, line-start, ends-with-digit, special, escape, put, spaced, next, put-all, text}
+use Rattle.html.specs.State.{State, with-out, line-start, special, opens, ends-with-digit, escape, put, spaced, blank, paused, next, put-all, text}
 use Rattle.html.specs.Struct.{out-of, with-space}
-use Rattle.html.specs.Pen.{pen-state, paused, opens, blank, ascii-space, Unescaped}
+use Rattle.html.specs.Pen.{pen-state, ascii-space, Unescaped}
 use Rattle.html.specs.declared.words.Pen.{Pen}
 use Rattle.html.specs.declared.words.Piece.{Piece}
 use Rattle.html.proofs.OutLaws.{size-out}
@@ -194,12 +194,10 @@ module _ (raw : List ℕ) (s t : State) (n : ℕ) (out : List ℕ) (p : Pen) (i 
 -- ---- ASCII spaces after a space
 module _ (f : Bool) (c : State) (still : paused c ≡ c) (out : c .pre ≡ false) where
   unfold-space : (b : ℕ) → ascii-space b ≡ true → (b < 0x80) × ((b ≡ 38 → ⊥) × (is-space b ≡ true))
-  unfolding ascii-space is-space
+  unfolding ascii-space is-ascii is-space
   unfold-space b e =
-      or-elim (within 9 13 b) (eqb b 32)
-      (λ w. let p = within-true 9 13 b w in (omega (arith, p .1), (λ z. omega (arith, p .1), rw w)))
-      (λ w. let q = eqb-true b 32 w in (omega arith, (λ z. omega arith, rw q)))
-      e
+      let p = and-true (is-ascii b) (is-space b) e in
+      (ltb-true b 0x80 (p .0), (λ z. false-true (sym (ap is-space z) ∙ p .1), p .1))
 
   next-blank : (b : ℕ) → blank (c .pre) b ≡ true → next f b c ≡ (f, c)
   unfolding next blank paused
@@ -219,40 +217,34 @@ module _ (f : Bool) (c : State) (still : paused c ≡ c) (out : c .pre ≡ false
       ⊎-elim (λ e. skip-one b bs e ∙ skip-blanks bs ∙ rw e) (λ e. rw e) (decide (ascii-space b))
 
 -- the loop that looks for their end
-space-is : (b : ℕ) → ascii-space b ≡ not (not (eqb b 32) && (ltb b 9 || ltb 13 b))
-unfolding ascii-space
-space-is b = go (eqb b 32) (ltb b 9) refl (ltb 13 b) refl
-  where
-    go : (e l : Bool) → ltb b 9 ≡ l → (h : Bool) → ltb 13 b ≡ h → within 9 13 b || e ≡ not (not e && (l || h))
-    go true l p h q = or-right (within 9 13 b) true refl
-    go false true p h q = rw (within-below 9 13 b (ltb-true b 9 p))
-    go false false p true q = let m = ltb-true 13 b q in rw (within-above 9 13 b (omega arith) m)
-    go false false p false q = rw (within-is 9 13 b (ltb-false b 9 p) (ltb-false 13 b q))
-
-not-space : (b : ℕ) (t : Bool) → (not (eqb b 32) && (ltb b 9 || ltb 13 b)) ≡ t → ascii-space b ≡ not t
-not-space b t e = space-is b ∙ ap not e
-
-pub blanks-stop : (s : List ℕ) (j : ℕ) → j < length s → (not (eqb (getD s j 0) 32) && (ltb (getD s j 0) 9 || ltb 13 (getD s j 0))) ≡ true
-    → drop-while ascii-space (drop j s) ≡ drop j s
+pub blanks-stop : (s : List ℕ) (j : ℕ) → j < length s → ascii-space (getD s j 0) ≡ false → drop-while ascii-space (drop j s) ≡ drop j s
 unfolding drop-while
-blanks-stop s j l e = rw (drop-cons s j 0 l, not-space (getD s j 0) true e)
+blanks-stop s j l e = rw (drop-cons s j 0 l, e)
 
-pub blanks-more : (s : List ℕ) (j : ℕ) → j < length s → (not (eqb (getD s j 0) 32) && (ltb (getD s j 0) 9 || ltb 13 (getD s j 0))) ≡ false
+pub blanks-more : (s : List ℕ) (j : ℕ) → j < length s → ascii-space (getD s j 0) ≡ true
     → drop-while ascii-space (drop j s) ≡ drop-while ascii-space (drop (j + 1) s)
 unfolding drop-while
-blanks-more s j l e = rw (drop-cons s j 0 l, not-space (getD s j 0) false e, add-one j)
+blanks-more s j l e = rw (drop-cons s j 0 l, e, add-one j)
+
+pub high-no-space : (b : ℕ) → 0x80 ≤ b → ascii-space b ≡ false
+unfolding ascii-space is-ascii
+high-no-space b h = rw (le-ltb b 0x80 h)
+
+pub ascii-space-is : (b : ℕ) → b < 0x80 → ascii-space b ≡ is-space b
+unfolding ascii-space is-ascii
+ascii-space-is b h = rw (lt-ltb b 0x80 h)
 
 pub blanks-end : (s : List ℕ) (j : ℕ) → length s ≤ j → drop-while ascii-space (drop j s) ≡ drop j s
 unfolding drop-while
 blanks-end s j l = rw (drop-of-length-le s l)
 
 pub blanks-scalars : (bs : List ℕ) → Scalars (chars bs) → Scalars (chars (drop-while ascii-space bs))
-unfolding drop-while ascii-space
+unfolding drop-while ascii-space is-ascii
 blanks-scalars [] h = h
 blanks-scalars (b ∷ bs) h =
     ⊎-elim
     (λ e.
-    let l : b < 0x80 = or-elim (within 9 13 b) (eqb b 32) (λ w. omega (arith, within-true 9 13 b w .1)) (λ w. omega (arith, eqb-true b 32 w)) e in
+    let l = ltb-true b 0x80 (and-true (is-ascii b) (is-space b) e .0) in
     rw e (blanks-scalars bs (subst Scalars (chars-ascii b bs l) h .1)))
     (λ e. rw e h)
     (decide (ascii-space b))
@@ -372,10 +364,10 @@ unfolding weight
 pause-most c b = omega (arith, pending-most b)
 
 next-weight : (first : Bool) (x : ℕ) (c : State) → weight (next first x c .1) ≤ weight c + 2 * length (utf8 x)
-unfolding next
+unfolding next paused
 next-weight first x c =
     let a = size-low x in
-    on (λ (n : Bool × State). weight (n .1) ≤ weight c + 2 * length (utf8 x)) (not (c .pre) && is-space x)
+    on (λ (n : Bool × State). weight (n .1) ≤ weight c + 2 * length (utf8 x)) (blank (c .pre) x)
     (λ _. omega (arith, pause-most c (not (line-start (c .out)))))
     (λ _. omega (arith, put-weight first x (spaced c), spaced-weight c))
 
@@ -385,8 +377,8 @@ put-all-weight first [] c = omega arith
 put-all-weight first (x ∷ xs) c = omega (arith, put-all-weight (next first x c .0) xs (next first x c .1), next-weight first x c)
 
 next-lists : (first : Bool) (x : ℕ) (c : State) → next first x c .1 .lists ≡ c .lists
-unfolding next put
-next-lists first x c = on (λ (n : Bool × State). n .1 .lists ≡ c .lists) (not (c .pre) && is-space x) (λ _. refl) (λ _. spaced-lists c)
+unfolding next paused put
+next-lists first x c = on (λ (n : Bool × State). n .1 .lists ≡ c .lists) (blank (c .pre) x) (λ _. refl) (λ _. spaced-lists c)
 
 put-all-lists : (first : Bool) (xs : List ℕ) (c : State) → put-all first xs c .lists ≡ c .lists
 unfolding put-all
@@ -502,3 +494,25 @@ piece-ascii s i l h a n =
       bound = omega arith;
       valid = v .1;
     }
+
+-- ---- characters that are escaped wherever they stand
+module _ (b : ℕ) (h : special b ≡ true) where
+  one-of : (P : ℕ → Type 0) → P 92 → P 42 → P 96 → P 91 → P 33 → P b
+  unfolding special
+  one-of P p q r s t =
+      let n : (k : ℕ) → P k → eqb b k ≡ true → P b = λ k x e. subst P (sym (eqb-true b k e)) x in
+      or-elim (eqb b 92) _ (n 92 p) (or-elim (eqb b 42) _ (n 42 q) (or-elim (eqb b 96) _ (n 96 r) (or-elim (eqb b 91) _ (n 91 s) (or-elim (eqb b 33) false (n 33 t) false-true)))) h
+
+  pub special-ascii : b < 0x80
+  special-ascii = one-of (λ k. k < 0x80) (omega arith) (omega arith) (omega arith) (omega arith) (omega arith)
+
+  pub special-not-and : b ≡ 38 → ⊥
+  special-not-and = one-of (λ k. k ≡ 38 → ⊥) (λ q. omega arith) (λ q. omega arith) (λ q. omega arith) (λ q. omega arith) (λ q. omega arith)
+
+  pub special-not-blank : (pre : Bool) → blank pre b ≡ false
+  unfolding blank is-space
+  special-not-blank pre = and-false (not pre) (is-space b) (one-of (λ k. is-space k ≡ false) refl refl refl refl refl)
+
+  pub special-write : (first : Bool) (s : State) (o : List ℕ) (sp : Bool) → s .pre ≡ false
+      → with-out (b ∷ 92 ∷ with-space sp o) false s ≡ put first b (spaced (with-out o sp s))
+  special-write first s o sp e = write-escaped first b s o sp (escaped-out _ true (s .pre) e (escape-special first b (with-space sp o) h))

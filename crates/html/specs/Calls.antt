@@ -2,8 +2,6 @@
 -- Assumes nothing.
 use Prim.Native.Nat.{ℕ, _+_, _*_}
 use mathlib.Core.List.{List}
-use mathlib.Core.Option.{Option, none, some}
-use lib.ListN.{length}
 use lib.Dec.{ltb}
 use Rattle.text.specs.Words.{if_then_else_, case}
 use Rattle.text.specs.Utf8.{size, encode, decode}

@@ -2,20 +2,16 @@
 -- Assumes nothing.
 use Prim.Native.Nat.{ℕ, _+_, _-_, _*_}
 use Prim.Native.String.{String}
-use mathlib.Core.List.{List, [], _∷_, map}
+use mathlib.Core.List.{List, [], _∷_}
 use lib.Dec.{leb}
 use lib.ListN.{length}
-use Rattle.text.specs.Words.{if_then_else_, case, lookup, take-while}
+use Rattle.text.specs.Words.{if_then_else_, case, lookup}
 use Rattle.text.specs.Chars.{is-alphanumeric, to-lower}
 use Rattle.html.specs.declared.Skip.{Skip}
 use Rattle.html.specs.declared.Skip.the-variants.{Nothing, Script, Style}
 use Rattle.html.specs.declared.Tag.{Tag}
 use Rattle.html.specs.declared.Tag.the-variants.{Ul, Ol, Skipped, Writes}
 use Rattle.html.specs.declared.Step.the-variants.{Heading, Block, Pre, Break, Item, Row, Cell, Strong, Emphasis, Code, Other}
-
--- the longest ASCII alphanumeric front part, in lower case
-unfoldable pub name-of : List ℕ → List ℕ
-name-of s = map to-lower (take-while is-alphanumeric s)
 
 -- one byte of it, and 0 for a byte that ends it
 unfoldable pub folded : ℕ → ℕ
@@ -32,7 +28,7 @@ key n = if leb (length n) 10 then digits 0 n else 0
 abbrev pub Rows : Type 0
 Rows = List (String × Tag)
 
--- what a table says of a name, and what a single name says
+-- what a table says of a name
 unfoldable pub find : Rows → List ℕ → Tag
 find rows n = case (lookup rows n) (Writes Other) (λ t. t)
 

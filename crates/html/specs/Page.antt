@@ -6,7 +6,7 @@ use mathlib.Core.List.{List, [], _∷_, map, reverse}
 use mathlib.Core.Option.{Option, none, some}
 use lib.ListN.{length, take, drop}
 use lib.Dec.{ltb, leb}
-use Rattle.text.specs.Words.{if_then_else_, _>>=_, case, str, same, starts, index, find, take-while}
+use Rattle.text.specs.Words.{if_then_else_, _>>=_, case, str, same, starts, find, take-while}
 use Rattle.text.specs.Chars.{is-alphanumeric, to-lower}
 use Rattle.text.specs.Utf8.{size}
 use Rattle.text.specs.Trim.{trim}
@@ -43,12 +43,16 @@ skipped closing name skipping c = some (if closing && same skipping name then wi
 unfoldable pub element : Bool → List ℕ → State → Option State
 element closing name c = case (c .skip) (shown closing name c) (λ skipping. skipped closing name skipping c)
 
+-- the longest ASCII alphanumeric front part, in lower case
+abbrev pub name-of : List ℕ → List ℕ
+name-of s = map to-lower (take-while is-alphanumeric s)
+
 -- what stands between `<` and `>`, trimmed
 unfoldable pub inside : List ℕ → State → Option State
 inside inner c =
     let closing = starts "/" inner in
     let rest = if closing then drop 1 inner else inner in
-    element closing (map to-lower (take-while is-alphanumeric rest)) c
+    element closing (name-of rest) c
 
 -- text is dropped inside `script` and `style`
 unfoldable pub words : List ℕ → State → State

@@ -1,10 +1,10 @@
 -- The state of `Converter` in notes.rs as values, and what each of its methods makes of it (document 01, "Converter").
 -- Assumes nothing.
-use Prim.Native.Nat.{ℕ, zero, suc}
+use Prim.Native.Nat.{ℕ, zero, suc, min}
 use Prim.Native.String.{String}
 use mathlib.Core.Bool.{Bool, true, false, _&&_, _||_, not}
 use mathlib.Core.List.{List, [], _∷_, _++_, reverseAux, tail}
-use mathlib.Core.Option.{Option, none, some}
+use mathlib.Core.Option.{Option, none}
 use lib.ListN.{length}
 use Rattle.text.specs.Words.{if_then_else_, case, str, repeat, is, matches, is-empty, lookup, starts, drop-while}
 use Rattle.text.specs.Chars.{is-space, is-digit}
@@ -57,28 +57,37 @@ newline c =
 unfoldable pub spaced : State → State
 spaced c = if c .space then with-out (str " " ++ c .out) false c else c
 
-unfoldable pub marks : String → Bool → State → State
-marks m closing c = push-str (str m) (if closing then c else spaced c)
+unfoldable pub marks : List ℕ → Bool → State → State
+marks m closing c = push-str m (if closing then c else spaced c)
 
 -- Escaped is what the Markdown reader would take for emphasis, headings or lists; `first`: nothing of this text has been written yet
 unfoldable pub special : ℕ → Bool
 special x = matches "\\*`[!" x
+
+unfoldable pub opens : ℕ → Bool
+opens x = matches "#-+>|" x
 
 unfoldable pub ends-with-digit : List ℕ → Bool
 ends-with-digit [] = false
 ends-with-digit (d ∷ out) = is-digit d
 
 unfoldable pub escape : Bool → ℕ → List ℕ → Bool
-escape first x out = special x || line-start out && matches "#-+>|" x || first && ends-with-digit out && is "." x
+escape first x out = special x || line-start out && opens x || first && ends-with-digit out && is "." x
 
 unfoldable pub put : Bool → ℕ → State → State
 put first x c = push-str (if escape first x (c .out) && not (c .pre) then str "\\" ++ (x ∷ []) else x ∷ []) c
 
+-- a space outside `pre`
+unfoldable pub blank : Bool → ℕ → Bool
+blank pre x = not pre && is-space x
+
+-- a space is pending, unless nothing is on the line yet
+unfoldable pub paused : State → State
+paused c = with-out (c .out) (not (line-start (c .out))) c
+
 -- `text`, one character: whether nothing has been written yet, and the state
 unfoldable pub next : Bool → ℕ → State → Bool × State
-next first x c =
-    if not (c .pre) && is-space x then (first, with-out (c .out) (not (line-start (c .out))) c)
-    else (false, put first x (spaced c))
+next first x c = if blank (c .pre) x then (first, paused c) else (false, put first x (spaced c))
 
 unfoldable pub put-all : Bool → List ℕ → State → State
 put-all first [] c = c
@@ -95,7 +104,7 @@ pub data Tag : Type 0 where
 
 unfoldable pub tags : List (String × Tag)
 tags =
-    ("h1", heading 1) ∷ ("h2", heading 2) ∷ ("h3", heading 3) ∷ ("h4", heading 3) ∷ ("h5", heading 3) ∷ ("h6", heading 3)
+    ("h1", heading 1) ∷ ("h2", heading 2) ∷ ("h3", heading 3) ∷ ("h4", heading 4) ∷ ("h5", heading 5) ∷ ("h6", heading 6)
     ∷ ("p", para)
     ∷ ("div", para)
     ∷ ("blockquote", para)
@@ -129,7 +138,7 @@ item (suc n ∷ l) c =
     with-lists (suc (suc n) ∷ l) (push-str (repeat (length l) "  " ++ decimal (suc n) ++ str ". ") c)
 
 unfoldable pub tag : Tag → Bool → State → State
-tag (heading n) false c = push-str (repeat n "#" ++ str " ") (block c)
+tag (heading n) false c = push-str (repeat (min n 3) "#" ++ str " ") (block c)
 tag (heading n) true c = block c
 tag para closing c = block c
 tag pre closing c = with-pre (not closing) (block c)
@@ -145,6 +154,6 @@ tag tr false c = c
 tag tr true c = newline c
 tag cell false c = c
 tag cell true c = with-out (reverseAux (str " | ") (c .out)) false c
-tag (marked m) closing c = marks m closing c
-tag code closing c = if c .pre then c else marks "`" closing c
+tag (marked m) closing c = marks (str m) closing c
+tag code closing c = if c .pre then c else marks (str "`") closing c
 tag other closing c = c

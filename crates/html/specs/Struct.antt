@@ -2,14 +2,14 @@
 -- notes.rs, the structs `Tagged` and `Turned` for what a tag and a turn leave.
 -- Assumes nothing.
 use Prim.Native.Nat.{ℕ, zero, suc}
-use mathlib.Core.Bool.{Bool, true, false}
+use mathlib.Core.Bool.{Bool, false}
 use mathlib.Core.List.{List, [], _∷_, _++_, reverse, reverseAux, tail}
 use mathlib.Core.Option.{Option, none, some}
-use lib.Dec.{ltb, leb}
+use lib.Dec.{leb}
 use lib.ListN.{length, getD, drop}
-use Rattle.text.specs.Words.{if_then_else_, case, str, repeat, is, starts, drop-while}
+use Rattle.text.specs.Words.{if_then_else_, str, is, starts, drop-while}
 use Rattle.text.specs.Utf8.{chars}
-use Rattle.html.specs.State.{State, with-out, push-str, spaced, block, list-changed, heading, marked, para, pre, br, ul, ol, li, tr, cell, code, other}
+use Rattle.html.specs.State.{State, with-out, list-changed, heading, marked, para, pre, br, ul, ol, li, tr, cell, code, other}
 use Rattle.html.specs.State as state
 use Rattle.html.specs.Page.{Turn, read, refused}
 use Rattle.html.specs.declared.Skip.{Skip}
@@ -39,7 +39,7 @@ upto (suc n) l = getD l n 0 ∷ upto n l
 abbrev pub lists-of : Converter → List ℕ → List ℕ
 lists-of c l = upto (c .depth) l
 
--- what the innermost list has counted: 0 for `ul`, and where none is open
+-- the number of the innermost list's next item: 0 for `ul`, and where no list is open
 unfoldable pub number : List ℕ → ℕ
 number [] = 0
 number (n ∷ l) = n
@@ -61,20 +61,9 @@ unspaced c = with-out (drop-while (is " ") (c .out)) false c
 abbrev pub with-space : Bool → List ℕ → List ℕ
 with-space space o = if space then 32 ∷ o else o
 
--- `marks`, for the bytes of a mark
-unfoldable pub marks-of : List ℕ → Bool → State → State
-marks-of m closing c = push-str m (if closing then c else spaced c)
-
 -- text that ends a pending space
 unfoldable pub ended : List ℕ → State → State
 ended s c = with-out (reverseAux s (c .out)) false c
-
--- `h1` to `h6`
-abbrev pub level-of : ℕ → ℕ
-level-of n = if ltb n 3 then n else 3
-
-unfoldable pub heading-of : ℕ → Bool → State → State
-heading-of n closing c = if closing then block c else push-str (repeat (level-of n) "#" ++ str " ") (block c)
 
 -- `ul` and `ol`, by the number that the list starts with
 unfoldable pub list-tag : ℕ → Bool → State → Option State
@@ -85,7 +74,7 @@ list-tag first closing c =
 
 -- the tags that only write, and all tags
 abbrev pub step-means : Step → state.Tag
-step-means (Heading n) = heading (level-of n)
+step-means (Heading n) = heading n
 step-means Block = para
 step-means Pre = pre
 step-means Break = br

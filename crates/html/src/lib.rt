@@ -74,7 +74,7 @@ pub struct Tagged {
     pub state: Converter,
 }
 
-// What a turn over a page leaves: whether it was refused, where the next turn starts, and the state.
+// What a turn over a page leaves: whether it was accepted, where the next turn starts, and the state.
 pub struct Turned {
     pub ok: bool,
     pub next: usize,

@@ -3,7 +3,8 @@ use crate::Skip;
 use crate::Step;
 use crate::Tag;
 ghost use mathlib.Core.Path.{_≡_};
-ghost use Rattle.html.specs.Names.{folded, name-of, key, says, skip-no, tag-skip};
+ghost use Rattle.html.specs.Page.{name-of};
+ghost use Rattle.html.specs.Names.{folded, key, says, skip-no, tag-skip};
 
 // An ASCII letter or digit in lower case, and 0 for any other byte.
 fn folded(b: u8) -> u8

@@ -14,9 +14,8 @@ ghost use mathlib.Core.Bool.{true};
 ghost use lib.ListN.{length, drop};
 ghost use Rattle.text.specs.Utf8.{Scalars, chars};
 ghost use Rattle.html.specs.State.{new, with-skip};
-ghost use Rattle.html.specs.Page.{element, inside, words, turn, loop};
+ghost use Rattle.html.specs.Page.{name-of, element, inside, words, turn, loop};
 ghost use Rattle.html.specs.Struct.{state-of, lists-of, number, skip-name, tagged, turned, left, closed};
-ghost use Rattle.html.specs.Names.{name-of};
 
 impl Converter {
     // The state with another tag skipped.

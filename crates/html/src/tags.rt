@@ -12,18 +12,18 @@ use crate::output::push_times;
 use crate::output::spaced;
 use crate::output::unspaced;
 ghost use mathlib.Core.Path.{_≡_};
-ghost use Prim.Native.Nat.{ℕ, _+_, _^_, _≤_, _<_};
+ghost use Prim.Native.Nat.{ℕ, _+_, _^_, _≤_, _<_, min};
 ghost use mathlib.Core.Bool.{Bool, true, false};
 ghost use mathlib.Core.List.{List, _∷_, tail};
 ghost use lib.ListN.{length};
 ghost use Rattle.text.proofs.AsciiLaws.{Ascii};
-ghost use Rattle.html.specs.State.{block, newline, list-changed, item, tag, with-lists, pre, br, li, tr, cell, code};
+ghost use Rattle.html.specs.State.{block, newline, marks, list-changed, item, tag, with-lists, heading, pre, br, li, tr, cell, code};
 ghost use Rattle.html.specs.Page.{listed};
-ghost use Rattle.html.specs.Struct.{state-of, lists-of, number, marks-of, step-means, tag-means, tagged, heading-of, level-of, ended, list-tag};
+ghost use Rattle.html.specs.Struct.{state-of, lists-of, number, step-means, tag-means, tagged, ended, list-tag};
 
 // A heading's level, 3 at most.
 fn level_of(level: usize) -> usize
-    ensures { λ r. ⌜ r ≡ level-of level ⌝ }
+    ensures { λ r. ⌜ r ≡ min level 3 ⌝ }
 {
     if level < 3 { level } else { 3 }
 }
@@ -70,7 +70,7 @@ impl Converter {
 
     pub(crate) fn marks(mut self, out: &mut [u8], mark: &[u8], closing: bool) -> Self
         requires { ⌜ (self .len + 1 + length (now mark) ≤ length (now out)) × Ascii (now mark) ⌝ }
-        ensures { λ r. ⌜ ((l : List ℕ) → state-of r l (now (out .exit)) ≡ marks-of (now (mark .entry)) closing (state-of self l (now (out .entry)))) ⌝ }
+        ensures { λ r. ⌜ ((l : List ℕ) → state-of r l (now (out .exit)) ≡ marks (now (mark .entry)) closing (state-of self l (now (out .entry)))) ⌝ }
     {
         if closing {
             let m = push_all(out, self.len, mark);
@@ -175,7 +175,7 @@ impl Converter {
 
     fn heading(mut self, out: &mut [u8], level: usize, closing: bool) -> Self
         requires { ⌜ self .len + 6 ≤ length (now out) ⌝ }
-        ensures { λ r. ⌜ ((l : List ℕ) → state-of r l (now (out .exit)) ≡ heading-of level closing (state-of self l (now (out .entry)))) ⌝ }
+        ensures { λ r. ⌜ ((l : List ℕ) → state-of r l (now (out .exit)) ≡ tag (heading level) closing (state-of self l (now (out .entry)))) ⌝ }
     {
         self = self.block(out);
         if closing {

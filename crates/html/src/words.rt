@@ -3,6 +3,7 @@ use crate::Converter;
 use crate::output::copy_char;
 use crate::output::ends_digit;
 use crate::output::line_start;
+use crate::output::push;
 use crate::output::put_char;
 use crate::output::spaced;
 use reference::Ampersand;
@@ -14,11 +15,11 @@ ghost use Rattle.text.specs.Chars.{is-alphanumeric};
 ghost use lib.ListN.{length, getD, drop};
 ghost use Rattle.text.specs.Words.{drop-while};
 ghost use Rattle.text.specs.Utf8.{IsScalar, Scalars, utf8, chars, code-at};
-ghost use Rattle.html.specs.State.{State, special, escape, put-all, text};
+ghost use Rattle.html.specs.State.{State, special, opens, escape, blank, paused, put-all, text};
 ghost use Rattle.reference.specs.Unescape.{unescape};
 ghost use Rattle.html.specs.State as state;
 ghost use Rattle.html.specs.Struct.{state-of, out-of};
-ghost use Rattle.html.specs.Pen.{pen-state, paused, opens, blank, ascii-space, AboveAscii, Unescaped};
+ghost use Rattle.html.specs.Pen.{pen-state, ascii-space, AboveAscii, Unescaped};
 
 // Where text is written: the output's length, a pending space, and whether nothing of this text has been written yet.
 pub struct Pen {
@@ -96,16 +97,6 @@ fn blank(c: u32, pre: bool) -> bool
     ensures { λ r. ⌜ r ≡ blank pre c ⌝ }
 {
     !pre & text::is_space(c)
-}
-
-// The same, with one test for most characters above ASCII.
-fn blank_high(c: u32, pre: bool) -> bool
-    ensures { λ r. ⌜ r ≡ blank pre c ⌝ }
-{
-    if 0x2060 <= c {
-        return !pre & (c == 12288);
-    }
-    blank(c, pre)
 }
 
 // Characters that the Markdown reader would take for emphasis or a link.
@@ -188,6 +179,21 @@ impl Pen {
         }
     }
 
+    // A character that is escaped wherever it stands.
+    fn escaped(self, out: &mut [u8], b: u8) -> Pen
+        requires { ⌜ (self .len + 3 ≤ length (now out)) × (special b ≡ true) ⌝ }
+        ensures { λ r. ⌜ ((s : State) → s .pre ≡ false → pen-state s r (now (out .exit)) ≡ state.put (self .first) b (state.spaced (pen-state s self (now (out .entry))))) × (r .first ≡ false) ⌝ }
+    {
+        let n = spaced(out, self.len, self.space);
+        let k = push(out, n, b'\\');
+        let m = push(out, k, b);
+        Pen {
+            len: m,
+            space: false,
+            first: false,
+        }
+    }
+
     // The character above ASCII at i of raw, written: none of them is escaped.
     fn high(self, out: &mut [u8], raw: &[u8], i: usize) -> Pen
         requires { ⌜ (self .len + 1 + length (utf8 (code-at (now raw) i)) ≤ length (now out)) × AboveAscii (now raw) i ⌝ }
@@ -224,7 +230,10 @@ fn blanks_end(raw: &[u8], i: usize) -> usize
     let mut j = i;
     while j < raw.len() {
         let b = raw[j];
-        if (b != b' ') & ((b < 9) | (13 < b)) {
+        if 0x80 <= b {
+            return j;
+        }
+        if !text::is_space(b as u32) {
             return j;
         }
         j += 1;
@@ -243,7 +252,7 @@ fn ink(pen: Pen, out: &mut [u8], raw: &[u8], pre: bool) -> Pen
         let b = raw[i];
         if 0x80 <= b {
             let v = above_ascii(raw, i);
-            if blank_high(v.code, pre) {
+            if blank(v.code, pre) {
                 p = p.pause(out);
                 i = v.next;
                 continue;
@@ -254,6 +263,11 @@ fn ink(pen: Pen, out: &mut [u8], raw: &[u8], pre: bool) -> Pen
         }
         if plain(b) {
             p = p.letter(out, b);
+            i += 1;
+            continue;
+        }
+        if !pre & special(b as u32) {
+            p = p.escaped(out, b);
             i += 1;
             continue;
         }

@@ -8,7 +8,8 @@ use mathlib.Core.Option.{some}
 use lib.Dec.{eqb}
 use Rattle.html.specs.State.{with-skip}
 use Rattle.html.specs.Struct.{state-of, tagged, skip-name}
-use Rattle.html.specs.Names.{name-of, skip-no, tag-skip}
+use Rattle.html.specs.Page.{name-of}
+use Rattle.html.specs.Names.{skip-no, tag-skip}
 use Rattle.html.proofs.SkipLaws.{element-tag, element-skips, element-stays, element-ends}
 use borrow.Author.Needs.{needs}
 use Rattle.html.proofs.Converter.element.Statement.{statement}

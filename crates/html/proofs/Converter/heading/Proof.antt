@@ -6,11 +6,10 @@ use denote.Ref.{now}
 use Prim.Native.Nat.{ℕ}
 use mathlib.Core.List.{_++_}
 use Rattle.text.specs.Words.{repeat, str}
-use Rattle.html.specs.State.{push-str, block}
-use Rattle.html.specs.Struct.{state-of, heading-of}
+use Rattle.html.specs.State.{tag, push-str, block}
+use Rattle.html.specs.Struct.{state-of}
 use Rattle.html.proofs.GrowLaws.{grown, grow-block, times-len}
 use Rattle.html.proofs.StepLaws.{heading-written}
-use Rattle.html.proofs.FitLaws.{level-most}
 use borrow.Author.Needs.{needs}
 use Rattle.html.proofs.Converter.heading.Statement.{statement}
 use Rattle.html.proofs.Converter.heading.Tie as tie
@@ -22,7 +21,7 @@ same-length : tie.Need-same-length
 same-length c = search needs
 
 returns : tie.Need-returns
-unfolding heading-of
+unfolding tag
 returns c = λ l. rw (c .if1 .taken) (c .before .before .before .block .ensures l)
 
 level-of-requires : tie.Need-level-of-requires
@@ -31,19 +30,19 @@ level-of-requires c κs = search needs
 push-times-requires : tie.Need-push-times-requires
 push-times-requires c κs =
     let b = grown block 2 grow-block _ _ _ _ (c .before .before .before .before .before .block .ensures) in
-    (omega (arith, level-most (c .before .before .before .before .before .before .before .before .args .level), c .level-of .ensures), omega arith)
+    (omega (arith, c .level-of .ensures), omega arith)
 
 push-requires : tie.Need-push-requires
 push-requires c κs =
     let b = grown block 2 grow-block _ _ _ _ (c .before .before .before .before .before .before .before .before .before .block .ensures) in
     let t = times-len _ _ (c .before .before .before .before .level-of .result) 35 _ _ (omega arith) (c .before .before .before .push-times .ensures) in
-    (omega (arith, level-most (c .before .before .before .before .before .before .before .before .before .before .before .before .args .level), c .before .before .before .before .level-of .ensures), omega arith)
+    (omega (arith, c .before .before .before .before .level-of .ensures), omega arith)
 
 same-length-2 : tie.Need-same-length-2
 same-length-2 c = search needs
 
 returns-2 : tie.Need-returns-2
-unfolding heading-of state-of
+unfolding tag state-of
 returns-2 c =
     let a = c .before .before .before .before .before .before .before .before .before .before .before .before .before .before .before .args in
     let k = c .before .before .before .before .before .before .before .level-of in

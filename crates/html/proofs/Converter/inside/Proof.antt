@@ -4,9 +4,8 @@ use mathlib.Core.Path.{ap, _∙_}
 use denote.Ref.{now}
 use Prim.Native.Nat.{ℕ}
 use mathlib.Core.List.{List}
-use Rattle.html.specs.Page.{element}
+use Rattle.html.specs.Page.{name-of, element}
 use Rattle.html.specs.Struct.{state-of}
-use Rattle.html.specs.Names.{name-of}
 use Rattle.html.proofs.SkipLaws.{inside-is}
 use borrow.Author.Needs.{needs}
 use Rattle.html.proofs.Converter.inside.Statement.{statement}

@@ -7,7 +7,8 @@ use Prim.Native.Nat.{ℕ}
 use mathlib.Core.List.{List}
 use mathlib.Core.Bool.{false}
 use Rattle.html.specs.State.{push-str, with-out}
-use Rattle.html.specs.Struct.{marks-of, state-of}
+use Rattle.html.specs.Struct.{state-of}
+use Rattle.html.specs.State.{marks}
 use Rattle.html.proofs.StepLaws.{spaced-state, spaced-len}
 use Rattle.html.proofs.TextLaws.{pending-most}
 use borrow.Author.Needs.{needs}
@@ -21,7 +22,7 @@ same-length : tie.Need-same-length
 same-length c = search needs
 
 returns : tie.Need-returns
-unfolding marks-of state-of
+unfolding marks state-of
 returns c =
     let a = c .before .before .before .before .before .before .before .args in
     λ l. rw (c .before .before .before .before .if1 .taken) (ap (λ (o : List ℕ). with-out o (a .self .space) (state-of (a .self) l (now (a .out)))) (c .before .before .push-all .ensures))
@@ -40,7 +41,7 @@ same-length-2 : tie.Need-same-length-2
 same-length-2 c = search needs
 
 returns-2 : tie.Need-returns-2
-unfolding marks-of state-of
+unfolding marks state-of
 returns-2 c =
     let a = c .before .before .before .before .before .before .before .before .before .before .before .args in
     λ l.

@@ -1,9 +1,7 @@
 -- `Converter::step` meets its contract.
 -- Assumes nothing.
 use mathlib.Core.Path.{_∙_}
-use Rattle.html.specs.Struct.{marks-of}
-use Rattle.html.specs.State.{tag, marks}
-use Rattle.html.proofs.StepLaws.{heading-tag}
+use Rattle.html.specs.State.{tag}
 use borrow.Author.Needs.{needs}
 use Rattle.html.proofs.Converter.step.Statement.{statement}
 use Rattle.html.proofs.Converter.step.Tie as tie
@@ -81,7 +79,7 @@ same-length : tie.Need-same-length
 same-length c = search needs
 
 returns : tie.Need-returns
-returns c = rw (c .before .before .before .before .before .step .given .1) (c .before .before .heading .ensures _ ∙ heading-tag _ _ _)
+returns c = rw (c .before .before .before .before .before .step .given .1) (c .before .before .heading .ensures _)
 
 same-length-2 : tie.Need-same-length-2
 same-length-2 c = search needs
@@ -127,14 +125,14 @@ same-length-9 : tie.Need-same-length-9
 same-length-9 c = search needs
 
 returns-8 : tie.Need-returns-8
-unfolding tag marks marks-of
+unfolding tag
 returns-8 c = rw (c .before .before .before .before .before .enum-told7 .given .1) (c .before .before .marks .ensures _)
 
 same-length-10 : tie.Need-same-length-10
 same-length-10 c = search needs
 
 returns-9 : tie.Need-returns-9
-unfolding tag marks marks-of
+unfolding tag
 returns-9 c = rw (c .before .before .before .before .before .enum-told8 .given .1) (c .before .before .marks2 .ensures _)
 
 same-length-11 : tie.Need-same-length-11

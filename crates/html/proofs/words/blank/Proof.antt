@@ -1,6 +1,6 @@
 -- `blank` meets its contract.
 -- Assumes nothing.
-use Rattle.html.specs.Pen.{blank}
+use Rattle.html.specs.State.{blank}
 use borrow.Author.Needs.{needs}
 use Rattle.html.proofs.words.blank.Statement.{statement}
 use Rattle.html.proofs.words.blank.Tie as tie

@@ -3,14 +3,21 @@
 use mathlib.Core.Path.{_≡_, refl, sym, ap, _∙_}
 use native.Mathlib.Omega.{arith}
 use denote.Ref.{now}
-use Prim.Native.Nat.{ℕ, _+_, _-_}
-use mathlib.Core.Bool.{Bool}
-use lib.ListN.{length, getD}
-use Rattle.html.specs.State.{State, new, with-pre, put, spaced, put-all}
-use Rattle.html.specs.Pen.{pen-state, blank, Unescaped}
-use Rattle.text.specs.Utf8.{utf8, chars}
+use borrow.Author.Tests.{not-true}
+use Prim.Native.Nat.{ℕ, _+_, _-_, _*_, _≤_, _<_}
+use mathlib.Core.Bool.{Bool, true, false, not}
+use mathlib.Core.List.{List}
+use lib.ListN.{length, getD, drop}
+use Rattle.text.specs.Chars.{is-alphanumeric}
+use Rattle.text.specs.Utf8.{Scalars, utf8, chars}
+use Rattle.text.proofs.Tests.{and-true}
+use Rattle.text.proofs.Laws.{utf8-size}
 use Rattle.reference.specs.Unescape.{unescape}
-use Rattle.html.proofs.TextLaws.{Inking, pending-most, some-size, ink-room, ink-pause, ink-blanks, blank-out, ink-write, ink-done, piece, piece-ascii, plain-ascii, plain-not-and, plain-not-blank}
+use Rattle.html.specs.State.{State, new, with-pre, special, put, spaced, blank, paused, put-all}
+use Rattle.html.specs.Pen.{pen-state, Unescaped}
+use Rattle.html.specs.declared.words.Pen.{Pen}
+use Rattle.html.specs.declared.words.Piece.{Piece}
+use Rattle.html.proofs.TextLaws.{Inking, pending-most, ink-room, ink-pause, ink-blanks, blank-out, ink-write, ink-done, piece, piece-ascii, plain-ascii, plain-not-and, plain-not-blank, special-ascii, special-not-and, special-not-blank}
 use borrow.Author.Needs.{needs}
 use Rattle.html.proofs.words.ink.Statement.{statement}
 use Rattle.html.proofs.words.ink.Tie as tie
@@ -22,112 +29,111 @@ Inv-loop out₀ raw pre p₀ i₀ out p i =
 abbrev μ-loop : tie.MeasureT-loop
 μ-loop out₀ raw pre p₀ i₀ out p i = length raw - i
 
+-- ---- what holds at the loop's head, and what a character more leaves of it
+abbrev Head : Type 0
+Head = tie.At-loop Inv-loop μ-loop
+
+abbrev raw-of : Head → List ℕ
+raw-of c = now (c .before .before .before .args .raw)
+
+abbrev pre-of : Head → Bool
+pre-of c = c .before .before .before .args .pre
+
+-- what the whole text makes of a state
+abbrev made : Head → State → State
+made c s = let a = c .before .before .before .args in put-all (a .pen .first) (unescape 0 (chars (raw-of c))) (pen-state s (a .pen) (now (a .out)))
+
+valid : (c : Head) → Scalars (chars (drop (c .loop .i) (raw-of c)))
+valid c = c .loop .inv .0 (with-pre (pre-of c) new) refl .valid
+
+roomy : (c : Head) (u : Piece) → Unescaped (raw-of c) (c .loop .i) u → c .loop .p .len + 2 + length (utf8 (u .code)) ≤ length (c .loop .out)
+roomy c u v =
+    omega (arith, ink-room (raw-of c) (with-pre (pre-of c) new) _ (c .before .before .before .args .pen .len) (c .loop .out) (c .loop .p) (c .loop .i) (c .loop .inv .0 (with-pre (pre-of c) new) refl) u v, c .loop .inv .1, c .before .before .before .pre .0)
+
+waits : (c : Head) (u : Piece) → Unescaped (raw-of c) (c .loop .i) u → (r : Pen) → blank (pre-of c) (u .code) ≡ true
+    → ((s : State) → pen-state s r (c .loop .out) ≡ paused (pen-state s (c .loop .p) (c .loop .out))) → r .first ≡ c .loop .p .first
+    → (s : State) → s .pre ≡ pre-of c → Inking (raw-of c) s (made c s) (c .before .before .before .args .pen .len) (c .loop .out) r (u .next)
+waits c u v r b e f s h =
+    ink-pause (raw-of c) s _ (c .before .before .before .args .pen .len) (c .loop .out) (c .loop .p) (c .loop .i) (c .loop .inv .0 s h) u v r (ap (λ (t : Bool). blank t (u .code)) h ∙ b) (e s) f
+
+wrote : (c : Head) (u : Piece) → Unescaped (raw-of c) (c .loop .i) u → (r : Pen) (o : List ℕ) → blank (pre-of c) (u .code) ≡ false
+    → ((s : State) → s .pre ≡ pre-of c → pen-state s r o ≡ put (c .loop .p .first) (u .code) (spaced (pen-state s (c .loop .p) (c .loop .out)))) → r .first ≡ false
+    → length o ≡ length (c .loop .out) → Inv-loop (now (c .before .before .before .args .out)) (raw-of c) (pre-of c) (c .before .before .before .args .pen) 0 o r (u .next)
+wrote c u v r o b e f n = (
+  λ s h.
+      ink-write (raw-of c) s _ (c .before .before .before .args .pen .len) (c .loop .out) (c .loop .p) (c .loop .i) (c .loop .inv .0 s h) u v r o (ap (λ (t : Bool). blank t (u .code)) h ∙ b) (e s h) f,
+  n ∙ c .loop .inv .1,
+)
+
+-- ---- a letter or digit, and a character that is always escaped
+plain-piece : (c : Head) → c .loop .i < length (raw-of c) → is-alphanumeric (getD (raw-of c) (c .loop .i) 0) ≡ true
+    → Unescaped (raw-of c) (c .loop .i) (piece (getD (raw-of c) (c .loop .i) 0) (c .loop .i + 1))
+plain-piece c l y = piece-ascii (raw-of c) (c .loop .i) l (valid c) (plain-ascii _ y) (plain-not-and _ y)
+
+special-piece : (c : Head) → c .loop .i < length (raw-of c) → special (getD (raw-of c) (c .loop .i) 0) ≡ true
+    → Unescaped (raw-of c) (c .loop .i) (piece (getD (raw-of c) (c .loop .i) 0) (c .loop .i + 1))
+special-piece c l y = piece-ascii (raw-of c) (c .loop .i) l (valid c) (special-ascii _ y) (special-not-and _ y)
+
 loop-holds : tie.Need-loop-holds Inv-loop μ-loop
-loop-holds c =
-    (λ s h. record { same = refl; valid = c .before .before .pre .1; bound = omega arith; room = omega (arith, pending-most (c .before .before .args .pen .space)) }, refl)
+loop-holds c = (λ s h. record { same = refl; valid = c .before .before .pre .1; bound = omega arith; room = omega (arith, pending-most (c .before .before .args .pen .space)) }, refl)
 
 shared-slice-read-b : tie.Need-shared-slice-read-b Inv-loop μ-loop
 shared-slice-read-b c = c .before .loop-test .taken
 
 above-ascii-requires : tie.Need-above-ascii-requires Inv-loop μ-loop
-above-ascii-requires c κs = (c .before .before .loop-test .taken, (c .before .before .before .loop .inv .0 (with-pre (c .before .before .before .before .before .before .args .pre) new) refl .valid, c .if1 .taken))
+above-ascii-requires c κs = (c .before .before .loop-test .taken, (valid (c .before .before .before), c .if1 .taken))
 
-blank-high-requires : tie.Need-blank-high-requires Inv-loop μ-loop
-blank-high-requires c κs = search needs
+blank-requires : tie.Need-blank-requires Inv-loop μ-loop
+blank-requires c κs = search needs
 
 pause-requires : tie.Need-pause-requires Inv-loop μ-loop
 pause-requires c κs =
-    let a = c .before .before .before .before .before .before .before .before .before .before .args in
-    let l = c .before .before .before .before .before .before .before .loop in
-    let raw = now (a .raw) in
     let u = c .before .before .before .above-ascii .result in
     let v = c .before .before .before .above-ascii .ensures .0 in
-    let s = with-pre (a .pre) new in
-    let t = put-all (a .pen .first) (unescape 0 (chars raw)) (pen-state s (a .pen) (now (a .out))) in
-    let k = l .inv .0 s refl in
-    omega (arith, ink-room raw s t (a .pen .len) (l .out) (l .p) (l .i) k u v, some-size raw s t (a .pen .len) (l .out) (l .p) (l .i) k u v, l .inv .1, c .before .before .before .before .before .before .before .before .before .before .pre .0)
+    omega (arith, roomy (c .before .before .before .before .before .before .before) u v)
 
 loop-less : tie.Need-loop-less Inv-loop μ-loop
 loop-less c =
-    let a = c .before .before .before .before .before .before .before .before .before .before .before .args in
-    let l = c .before .before .before .before .before .before .before .before .loop in
-    let raw = now (a .raw) in
     let u = c .before .before .before .before .above-ascii .result in
     let v = c .before .before .before .before .above-ascii .ensures .0 in
-    let s = with-pre (a .pre) new in
-    let t = put-all (a .pen .first) (unescape 0 (chars raw)) (pen-state s (a .pen) (now (a .out))) in
-    let k = l .inv .0 s refl in
-    omega (arith, some-size raw s t (a .pen .len) (l .out) (l .p) (l .i) k u v, v .size, v .bound)
+    omega (arith, utf8-size (u .code) .0, v .size, v .bound)
 
 loop-again : tie.Need-loop-again Inv-loop μ-loop
 loop-again c =
-    let a = c .before .before .before .before .before .before .before .before .before .before .before .args in
-    let l = c .before .before .before .before .before .before .before .before .loop in
-    let raw = now (a .raw) in
     let u = c .before .before .before .before .above-ascii .result in
-    let v = c .before .before .before .before .above-ascii .ensures .0 in (
-      λ s h.
-          let t = put-all (a .pen .first) (unescape 0 (chars raw)) (pen-state s (a .pen) (now (a .out))) in
-          ink-pause raw s t (a .pen .len) (l .out) (l .p) (l .i) (l .inv .0 s h) u v (c .pause .result) (ap (λ (b : Bool). blank b (u .code)) h ∙ sym (c .before .before .before .blank-high .ensures) ∙ c .before .before .if2 .taken) (c .pause .ensures .0 s) (c .pause .ensures .1),
-      l .inv .1,
-    )
+    let v = c .before .before .before .before .above-ascii .ensures .0 in
+    (λ s h. waits (c .before .before .before .before .before .before .before .before) u v (c .pause .result) (sym (c .before .before .before .blank .ensures) ∙ c .before .before .if2 .taken) (c .pause .ensures .0) (c .pause .ensures .1) s h, c .before .before .before .before .before .before .before .before .loop .inv .1)
 
 high-requires : tie.Need-high-requires Inv-loop μ-loop
 high-requires c κs =
-    let a = c .before .before .before .before .before .before .before .before .before .before .args in
-    let l = c .before .before .before .before .before .before .before .loop in
-    let raw = now (a .raw) in
     let u = c .before .before .before .above-ascii .result in
     let v = c .before .before .before .above-ascii .ensures .0 in
-    let s = with-pre (a .pre) new in
-    let t = put-all (a .pen .first) (unescape 0 (chars raw)) (pen-state s (a .pen) (now (a .out))) in
-    let k = l .inv .0 s refl in
-    let w = ap (λ (x : ℕ). length (utf8 x)) (c .before .before .before .above-ascii .ensures .1) in (
-      omega (arith, ink-room raw s t (a .pen .len) (l .out) (l .p) (l .i) k u v, some-size raw s t (a .pen .len) (l .out) (l .p) (l .i) k u v, l .inv .1, c .before .before .before .before .before .before .before .before .before .before .pre .0, w),
-      (c .before .before .before .before .before .before .loop-test .taken, (k .valid, c .before .before .before .before .if1 .taken)),
-    )
+    (omega (arith, roomy (c .before .before .before .before .before .before .before) u v, ap (λ (x : ℕ). length (utf8 x)) (c .before .before .before .above-ascii .ensures .1)), (c .before .before .before .before .before .before .loop-test .taken, (valid (c .before .before .before .before .before .before .before), c .before .before .before .before .if1 .taken)))
 
 loop-less-2 : tie.Need-loop-less-2 Inv-loop μ-loop
 loop-less-2 c =
-    let a = c .before .before .before .before .before .before .before .before .before .before .before .before .before .args in
-    let l = c .before .before .before .before .before .before .before .before .before .before .loop in
-    let raw = now (a .raw) in
     let u = c .before .before .before .before .before .before .above-ascii .result in
     let v = c .before .before .before .before .before .before .above-ascii .ensures .0 in
-    let s = with-pre (a .pre) new in
-    let t = put-all (a .pen .first) (unescape 0 (chars raw)) (pen-state s (a .pen) (now (a .out))) in
-    let k = l .inv .0 s refl in
-    omega (arith, some-size raw s t (a .pen .len) (l .out) (l .p) (l .i) k u v, v .size, v .bound)
+    omega (arith, utf8-size (u .code) .0, v .size, v .bound)
 
 loop-again-2 : tie.Need-loop-again-2 Inv-loop μ-loop
 loop-again-2 c =
-    let a = c .before .before .before .before .before .before .before .before .before .before .before .before .before .args in
-    let l = c .before .before .before .before .before .before .before .before .before .before .loop in
-    let raw = now (a .raw) in
     let u = c .before .before .before .before .before .before .above-ascii .result in
-    let v = c .before .before .before .before .before .before .above-ascii .ensures .0 in (
-      λ s h.
-          let t = put-all (a .pen .first) (unescape 0 (chars raw)) (pen-state s (a .pen) (now (a .out))) in
-          ink-write raw s t (a .pen .len) (l .out) (l .p) (l .i) (l .inv .0 s h) u v (c .before .before .high .result) _ (ap (λ (b : Bool). blank b (u .code)) h ∙ sym (c .before .before .before .before .before .blank-high .ensures) ∙ c .before .before .before .before .if2 .left) (c .before .before .high .ensures .0 s ∙ ap (λ (x : ℕ). put (l .p .first) x (spaced (pen-state s (l .p) (l .out)))) (sym (c .before .before .before .before .before .before .above-ascii .ensures .1))) (c .before .before .high .ensures .1),
-      search needs,
-    )
+    let v = c .before .before .before .before .before .before .above-ascii .ensures .0 in
+    wrote (c .before .before .before .before .before .before .before .before .before .before) u v (c .before .before .high .result) _ (sym (c .before .before .before .before .before .blank .ensures) ∙ c .before .before .before .before .if2 .left)
+    (λ s h. c .before .before .high .ensures .0 s ∙ ap (λ (x : ℕ). put (c .before .before .before .before .before .before .before .before .before .before .loop .p .first) x (spaced (pen-state s (c .before .before .before .before .before .before .before .before .before .before .loop .p) (c .before .before .before .before .before .before .before .before .before .before .loop .out)))) (sym (c .before .before .before .before .before .before .above-ascii .ensures .1)))
+    (c .before .before .high .ensures .1) (search needs)
 
 plain-requires : tie.Need-plain-requires Inv-loop μ-loop
 plain-requires c κs = search needs
 
 letter-requires : tie.Need-letter-requires Inv-loop μ-loop
 letter-requires c κs =
-    let a = c .before .before .before .before .before .before .before .before .before .args in
-    let l = c .before .before .before .before .before .before .loop in
-    let raw = now (a .raw) in
-    let b = getD raw (l .i) 0 in
+    let b = getD (now (c .before .before .before .before .before .before .before .before .before .args .raw)) (c .before .before .before .before .before .before .loop .i) 0 in
     let y = sym (c .before .before .plain .ensures) ∙ c .before .if3 .taken in
-    let u = piece b (l .i + 1) in
-    let v : Unescaped raw (l .i) u = piece-ascii raw (l .i) (c .before .before .before .before .before .loop-test .taken) (l .inv .0 (with-pre (a .pre) new) refl .valid) (plain-ascii b y) (plain-not-and b y) in
-    let s = with-pre (a .pre) new in
-    let t = put-all (a .pen .first) (unescape 0 (chars raw)) (pen-state s (a .pen) (now (a .out))) in
-    let k = l .inv .0 s refl in
-    (omega (arith, ink-room raw s t (a .pen .len) (l .out) (l .p) (l .i) k u v, some-size raw s t (a .pen .len) (l .out) (l .p) (l .i) k u v, l .inv .1, c .before .before .before .before .before .before .before .before .before .pre .0), y)
+    let u = piece b (c .before .before .before .before .before .before .loop .i + 1) in
+    let v = plain-piece (c .before .before .before .before .before .before) (c .before .before .before .before .before .loop-test .taken) y in
+    (omega (arith, roomy (c .before .before .before .before .before .before) u v, utf8-size b .0), y)
 
 add-i : tie.Need-add-i Inv-loop μ-loop
 add-i c = omega (arith, c .before .before .before .before .before .before .before .before .loop-test .taken, c .before .before .before .before .before .before .before .before .before .before .before .before .good)
@@ -137,117 +143,97 @@ loop-less-3 c = omega (arith, c .before .before .before .before .before .before 
 
 loop-again-3 : tie.Need-loop-again-3 Inv-loop μ-loop
 loop-again-3 c =
-    let a = c .before .before .before .before .before .before .before .before .before .before .before .before .args in
-    let l = c .before .before .before .before .before .before .before .before .before .loop in
-    let raw = now (a .raw) in
-    let b = getD raw (l .i) 0 in
+    let b = getD (now (c .before .before .before .before .before .before .before .before .before .before .before .before .args .raw)) (c .before .before .before .before .before .before .before .before .before .loop .i) 0 in
     let y = sym (c .before .before .before .before .before .plain .ensures) ∙ c .before .before .before .before .if3 .taken in
-    let u = piece b (l .i + 1) in
-    let v : Unescaped raw (l .i) u = piece-ascii raw (l .i) (c .before .before .before .before .before .before .before .before .loop-test .taken) (l .inv .0 (with-pre (a .pre) new) refl .valid) (plain-ascii b y) (plain-not-and b y) in (
-      λ s h.
-          let t = put-all (a .pen .first) (unescape 0 (chars raw)) (pen-state s (a .pen) (now (a .out))) in
-          ink-write raw s t (a .pen .len) (l .out) (l .p) (l .i) (l .inv .0 s h) u v (c .before .before .letter .result) _ (plain-not-blank b y (s .pre)) (c .before .before .letter .ensures .0 s) (c .before .before .letter .ensures .1),
-      search needs,
-    )
+    let u = piece b (c .before .before .before .before .before .before .before .before .before .loop .i + 1) in
+    let v = plain-piece (c .before .before .before .before .before .before .before .before .before) (c .before .before .before .before .before .before .before .before .loop-test .taken) y in
+    wrote (c .before .before .before .before .before .before .before .before .before) u v (c .before .before .letter .result) _ (plain-not-blank b y (c .before .before .before .before .before .before .before .before .before .before .before .before .args .pre)) (λ s h. c .before .before .letter .ensures .0 s) (c .before .before .letter .ensures .1) (search needs)
+
+cast-special : tie.Need-cast-special Inv-loop μ-loop
+cast-special c = search needs
+
+special-requires : tie.Need-special-requires Inv-loop μ-loop
+special-requires c κs = search needs
+
+escaped-requires : tie.Need-escaped-requires Inv-loop μ-loop
+escaped-requires c κs =
+    let b = getD (now (c .before .before .before .before .before .before .before .before .before .before .before .args .raw)) (c .before .before .before .before .before .before .before .before .loop .i) 0 in
+    let y = and-true (not (c .before .before .before .before .before .before .before .before .before .before .before .args .pre)) (c .before .before .special .result) (c .before .if4 .taken) in
+    let z = sym (c .before .before .special .ensures) ∙ y .1 in
+    let u = piece b (c .before .before .before .before .before .before .before .before .loop .i + 1) in
+    let v = special-piece (c .before .before .before .before .before .before .before .before) (c .before .before .before .before .before .before .before .loop-test .taken) z in
+    (omega (arith, roomy (c .before .before .before .before .before .before .before .before) u v, utf8-size b .0), z)
+
+add-i-2 : tie.Need-add-i-2 Inv-loop μ-loop
+add-i-2 c = omega (arith, c .before .before .before .before .before .before .before .before .before .before .loop-test .taken, c .before .before .before .before .before .before .before .before .before .before .before .before .before .before .good)
+
+loop-less-4 : tie.Need-loop-less-4 Inv-loop μ-loop
+loop-less-4 c = omega (arith, c .before .before .before .before .before .before .before .before .before .before .loop-test .taken)
+
+loop-again-4 : tie.Need-loop-again-4 Inv-loop μ-loop
+loop-again-4 c =
+    let b = getD (now (c .before .before .before .before .before .before .before .before .before .before .before .before .before .before .args .raw)) (c .before .before .before .before .before .before .before .before .before .before .before .loop .i) 0 in
+    let y = and-true (not (c .before .before .before .before .before .before .before .before .before .before .before .before .before .before .args .pre)) (c .before .before .before .before .before .special .result) (c .before .before .before .before .if4 .taken) in
+    let z = sym (c .before .before .before .before .before .special .ensures) ∙ y .1 in
+    let u = piece b (c .before .before .before .before .before .before .before .before .before .before .before .loop .i + 1) in
+    let v = special-piece (c .before .before .before .before .before .before .before .before .before .before .before) (c .before .before .before .before .before .before .before .before .before .before .loop-test .taken) z in
+    wrote (c .before .before .before .before .before .before .before .before .before .before .before) u v (c .before .before .escaped .result) _ (special-not-blank b z (c .before .before .before .before .before .before .before .before .before .before .before .before .before .before .args .pre)) (λ s h. c .before .before .escaped .ensures .0 s (h ∙ not-true (c .before .before .before .before .before .before .before .before .before .before .before .before .before .before .args .pre) (y .0))) (c .before .before .escaped .ensures .1) (search needs)
 
 unescaped-requires : tie.Need-unescaped-requires Inv-loop μ-loop
-unescaped-requires c κs = (c .before .before .before .before .loop-test .taken, (c .before .before .before .before .before .loop .inv .0 (with-pre (c .before .before .before .before .before .before .before .before .args .pre) new) refl .valid, c .before .before .if1 .left))
+unescaped-requires c κs = (c .before .before .before .before .before .before .loop-test .taken, (valid (c .before .before .before .before .before .before .before), c .before .before .before .before .if1 .left))
 
-blank-requires : tie.Need-blank-requires Inv-loop μ-loop
-blank-requires c κs = search needs
+blank-requires-2 : tie.Need-blank-requires-2 Inv-loop μ-loop
+blank-requires-2 c κs = search needs
 
 pause-requires-2 : tie.Need-pause-requires-2 Inv-loop μ-loop
 pause-requires-2 c κs =
-    let a = c .before .before .before .before .before .before .before .before .before .before .before .before .args in
-    let l = c .before .before .before .before .before .before .before .before .before .loop in
-    let raw = now (a .raw) in
     let u = c .before .before .before .unescaped .result in
     let v = c .before .before .before .unescaped .ensures in
-    let s = with-pre (a .pre) new in
-    let t = put-all (a .pen .first) (unescape 0 (chars raw)) (pen-state s (a .pen) (now (a .out))) in
-    let k = l .inv .0 s refl in
-    omega (arith, ink-room raw s t (a .pen .len) (l .out) (l .p) (l .i) k u v, some-size raw s t (a .pen .len) (l .out) (l .p) (l .i) k u v, l .inv .1, c .before .before .before .before .before .before .before .before .before .before .before .before .pre .0)
+    omega (arith, roomy (c .before .before .before .before .before .before .before .before .before .before .before) u v)
 
 blanks-end-requires : tie.Need-blanks-end-requires Inv-loop μ-loop
 blanks-end-requires c κs = c .before .before .before .before .unescaped .ensures .bound
 
-loop-less-4 : tie.Need-loop-less-4 Inv-loop μ-loop
-loop-less-4 c =
-    let a = c .before .before .before .before .before .before .before .before .before .before .before .before .before .before .args in
-    let l = c .before .before .before .before .before .before .before .before .before .before .before .loop in
-    let raw = now (a .raw) in
+loop-less-5 : tie.Need-loop-less-5 Inv-loop μ-loop
+loop-less-5 c =
     let u = c .before .before .before .before .before .unescaped .result in
     let v = c .before .before .before .before .before .unescaped .ensures in
-    let s = with-pre (a .pre) new in
-    let t = put-all (a .pen .first) (unescape 0 (chars raw)) (pen-state s (a .pen) (now (a .out))) in
-    let k = l .inv .0 s refl in
-    omega (arith, some-size raw s t (a .pen .len) (l .out) (l .p) (l .i) k u v, v .size, v .bound, c .blanks-end .ensures .1 .0, c .blanks-end .ensures .1 .1)
+    omega (arith, utf8-size (u .code) .0, v .size, v .bound, c .blanks-end .ensures .1 .0, c .blanks-end .ensures .1 .1)
 
-loop-again-4 : tie.Need-loop-again-4 Inv-loop μ-loop
-loop-again-4 c =
-    let a = c .before .before .before .before .before .before .before .before .before .before .before .before .before .before .args in
-    let l = c .before .before .before .before .before .before .before .before .before .before .before .loop in
-    let raw = now (a .raw) in
+loop-again-5 : tie.Need-loop-again-5 Inv-loop μ-loop
+loop-again-5 c =
     let u = c .before .before .before .before .before .unescaped .result in
-    let v = c .before .before .before .before .before .unescaped .ensures in (
+    let v = c .before .before .before .before .before .unescaped .ensures in
+    let b = sym (c .before .before .before .before .blank2 .ensures) ∙ c .before .before .before .if5 .taken in (
       λ s h.
-          let t = put-all (a .pen .first) (unescape 0 (chars raw)) (pen-state s (a .pen) (now (a .out))) in
-          let b = ap (λ (b : Bool). blank b (u .code)) h ∙ sym (c .before .before .before .before .blank .ensures) ∙ c .before .before .before .if4 .taken in
-          let e = c .before .pause2 .ensures .0 s in
-          ink-blanks raw s t (a .pen .len) (l .out) (l .p) (c .before .pause2 .result) (u .next) (c .blanks-end .result)
-          (ink-pause raw s t (a .pen .len) (l .out) (l .p) (l .i) (l .inv .0 s h) u v (c .before .pause2 .result) b e (c .before .pause2 .ensures .1))
-          (blank-out (s .pre) (u .code) b) e (c .blanks-end .ensures .0) (c .blanks-end .ensures .1 .0) (c .blanks-end .ensures .1 .1),
-      l .inv .1,
+          ink-blanks _ s _ _ _ (c .before .before .before .before .before .before .before .before .before .before .before .before .before .loop .p) (c .before .pause2 .result) (u .next) (c .blanks-end .result) (waits (c .before .before .before .before .before .before .before .before .before .before .before .before .before) u v (c .before .pause2 .result) b (c .before .pause2 .ensures .0) (c .before .pause2 .ensures .1) s h)
+          (h ∙ blank-out (c .before .before .before .before .before .before .before .before .before .before .before .before .before .before .before .before .args .pre) (u .code) b) (c .before .pause2 .ensures .0 s) (c .blanks-end .ensures .0) (c .blanks-end .ensures .1 .0) (c .blanks-end .ensures .1 .1),
+      c .before .before .before .before .before .before .before .before .before .before .before .before .before .loop .inv .1,
     )
 
 write-requires : tie.Need-write-requires Inv-loop μ-loop
 write-requires c κs =
-    let a = c .before .before .before .before .before .before .before .before .before .before .before .before .args in
-    let l = c .before .before .before .before .before .before .before .before .before .loop in
-    let raw = now (a .raw) in
     let u = c .before .before .before .unescaped .result in
     let v = c .before .before .before .unescaped .ensures in
-    let s = with-pre (a .pre) new in
-    let t = put-all (a .pen .first) (unescape 0 (chars raw)) (pen-state s (a .pen) (now (a .out))) in
-    let k = l .inv .0 s refl in
-    (omega (arith, ink-room raw s t (a .pen .len) (l .out) (l .p) (l .i) k u v, some-size raw s t (a .pen .len) (l .out) (l .p) (l .i) k u v, l .inv .1, c .before .before .before .before .before .before .before .before .before .before .before .before .pre .0), v .scalar)
+    (omega (arith, roomy (c .before .before .before .before .before .before .before .before .before .before .before) u v), v .scalar)
 
-loop-less-5 : tie.Need-loop-less-5 Inv-loop μ-loop
-loop-less-5 c =
-    let a = c .before .before .before .before .before .before .before .before .before .before .before .before .before .before .before .args in
-    let l = c .before .before .before .before .before .before .before .before .before .before .before .before .loop in
-    let raw = now (a .raw) in
+loop-less-6 : tie.Need-loop-less-6 Inv-loop μ-loop
+loop-less-6 c =
     let u = c .before .before .before .before .before .before .unescaped .result in
     let v = c .before .before .before .before .before .before .unescaped .ensures in
-    let s = with-pre (a .pre) new in
-    let t = put-all (a .pen .first) (unescape 0 (chars raw)) (pen-state s (a .pen) (now (a .out))) in
-    let k = l .inv .0 s refl in
-    omega (arith, some-size raw s t (a .pen .len) (l .out) (l .p) (l .i) k u v, v .size, v .bound)
+    omega (arith, utf8-size (u .code) .0, v .size, v .bound)
 
-loop-again-5 : tie.Need-loop-again-5 Inv-loop μ-loop
-loop-again-5 c =
-    let a = c .before .before .before .before .before .before .before .before .before .before .before .before .before .before .before .args in
-    let l = c .before .before .before .before .before .before .before .before .before .before .before .before .loop in
-    let raw = now (a .raw) in
+loop-again-6 : tie.Need-loop-again-6 Inv-loop μ-loop
+loop-again-6 c =
     let u = c .before .before .before .before .before .before .unescaped .result in
-    let v = c .before .before .before .before .before .before .unescaped .ensures in (
-      λ s h.
-          let t = put-all (a .pen .first) (unescape 0 (chars raw)) (pen-state s (a .pen) (now (a .out))) in
-          ink-write raw s t (a .pen .len) (l .out) (l .p) (l .i) (l .inv .0 s h) u v (c .before .before .write .result) _ (ap (λ (b : Bool). blank b (u .code)) h ∙ sym (c .before .before .before .before .before .blank .ensures) ∙ c .before .before .before .before .if4 .left) (c .before .before .write .ensures .0 s h) (c .before .before .write .ensures .1),
-      search needs,
-    )
+    let v = c .before .before .before .before .before .before .unescaped .ensures in
+    wrote (c .before .before .before .before .before .before .before .before .before .before .before .before .before .before) u v (c .before .before .write .result) _ (sym (c .before .before .before .before .before .blank2 .ensures) ∙ c .before .before .before .before .if5 .left) (c .before .before .write .ensures .0) (c .before .before .write .ensures .1) (search needs)
 
 same-length : tie.Need-same-length Inv-loop μ-loop
 same-length c = search needs
 
 returns : tie.Need-returns Inv-loop μ-loop
-returns c =
-    let a = c .before .before .before .before .args in
-    let l = c .before .loop in
-    let raw = now (a .raw) in
-    λ s h.
-    let t = put-all (a .pen .first) (unescape 0 (chars raw)) (pen-state s (a .pen) (now (a .out))) in
-    ink-done raw s t (a .pen .len) (l .out) (l .p) (l .i) (l .inv .0 s h) (c .loop-test .left)
+returns c = λ s h. ink-done _ s _ _ _ (c .before .loop .p) (c .before .loop .i) (c .before .loop .inv .0 s h) (c .loop-test .left)
 
 pub ink-spec : {M : Type 1} → statement M
-ink-spec = tie.close (tie.spec Inv-loop μ-loop loop-holds shared-slice-read-b above-ascii-requires blank-high-requires pause-requires loop-less loop-again high-requires loop-less-2 loop-again-2 plain-requires letter-requires add-i loop-less-3 loop-again-3 unescaped-requires blank-requires pause-requires-2 blanks-end-requires loop-less-4 loop-again-4 write-requires loop-less-5 loop-again-5 same-length returns)
+ink-spec = tie.close (tie.spec Inv-loop μ-loop loop-holds shared-slice-read-b above-ascii-requires blank-requires pause-requires loop-less loop-again high-requires loop-less-2 loop-again-2 plain-requires letter-requires add-i loop-less-3 loop-again-3 cast-special special-requires escaped-requires add-i-2 loop-less-4 loop-again-4 unescaped-requires blank-requires-2 pause-requires-2 blanks-end-requires loop-less-5 loop-again-5 write-requires loop-less-6 loop-again-6 same-length returns)

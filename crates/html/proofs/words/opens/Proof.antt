@@ -1,7 +1,7 @@
 -- `opens` meets its contract.
 -- Assumes nothing.
 use lib.Dec.{eqb}
-use Rattle.html.specs.Pen.{opens}
+use Rattle.html.specs.State.{opens}
 use Rattle.html.proofs.TextLaws.{five}
 use Rattle.html.proofs.words.opens.Statement.{statement}
 use Rattle.html.proofs.words.opens.Tie as tie

@@ -3,7 +3,8 @@
 use mathlib.Core.Path.{refl, ap}
 use denote.Ref.{now}
 use mathlib.Core.Bool.{Bool, not}
-use Rattle.html.specs.Pen.{pen-state, paused}
+use Rattle.html.specs.Pen.{pen-state}
+use Rattle.html.specs.State.{paused}
 use Rattle.html.specs.Struct.{out-of}
 use Rattle.html.specs.State.{with-out}
 use borrow.Author.Needs.{needs}
