@@ -10,7 +10,7 @@ use lib.Dec.{eqb}
 use Rattle.text.specs.Words.{str}
 use Rattle.text.specs.Chars.{is-space, is-letter}
 use Rattle.text.proofs.Tests.{and-true}
-use Rattle.html.specs.State.{State, spaced, ends-with-digit, escape, put, next, put-all}
+use Rattle.html.specs.State.{State, spaced, opens, ends-with-digit, escape, put, blank, next, put-all}
 use Rattle.html.specs.Page.{loop}
 use Rattle.sheet.specs.Tree.{Kind, plain, strong, em, both, code, Run, run}
 use Rattle.sheet.specs.Grammar.{Many, stop, more, Text, IsRun, is-run, first-is, last-is, no-blank, fits, touch, apart, first-letter, before, after}
@@ -128,7 +128,7 @@ module _ (l : List ℕ) where
 module _ (x : ℕ) (h : Letter x) where
   -- at the start of a line a letter is written as it is
   next-letter : (l o : List ℕ) → next true x (st l o false) ≡ (false, st l (x ∷ o) false)
-  unfolding next spaced put escape
+  unfolding next blank spaced put escape opens
   next-letter l o = simp (letter-space x h, letter-special x h, letter-leading x h, letter-is-not x h 46 (inl (omega arith)), and-false)
 
   escaped-letter : (t o : List ℕ) → reverseAux (escaped t) (x ∷ o) ≡ reverseAux (escaped (x ∷ t)) o

@@ -11,7 +11,7 @@ use Rattle.text.specs.Words.{str, is}
 use Rattle.text.specs.Chars.{is-space}
 use Rattle.text.proofs.Tests.{and-true}
 use Rattle.reference.specs.Unescape.{unescape, unescaped}
-use Rattle.html.specs.State.{State, push-str, line-start, spaced, marks, ends-with-digit, next, put-all, text}
+use Rattle.html.specs.State.{State, push-str, line-start, spaced, marks, ends-with-digit, blank, paused, next, put-all, text}
 use Rattle.html.specs.Page.{words, loop}
 use Rattle.sheet.specs.Grammar.{none-of, last-is, no-blank}
 use Rattle.sheet.specs.Written.{escaped}
@@ -40,7 +40,7 @@ unfolding words text unescape unescaped
 nl-put l o b = refl
 
 pub nl-words : (l o : List ℕ) (b : Bool) → words (10 ∷ []) (st l o b) ≡ st l o (not (line-start o))
-unfolding words text unescape unescaped put-all next is-space
+unfolding words text unescape unescaped put-all next blank paused is-space
 nl-words l o b = refl
 
 pub nl-raw : none-of (is "<") (10 ∷ []) ≡ true
@@ -87,11 +87,11 @@ unfolding spaced
 low-ready l o true v e h = low-tail 32 o (subst (λ (c : State). Low (c .out)) (sym e) h)
 low-ready l o false v e h = subst (λ (c : State). Low (c .out)) (sym e) h
 
-open-marks : (l v : List ℕ) (m : String) (c : State) → Ready l c v → begins 32 (reverseAux (str m) v) ≡ false → marks m false c ≡ hold l (reverseAux (str m) v)
+open-marks : (l v : List ℕ) (m : String) (c : State) → Ready l c v → begins 32 (reverseAux (str m) v) ≡ false → marks (str m) false c ≡ hold l (reverseAux (str m) v)
 unfolding marks
 open-marks l v m c h e = ap (push-str (str m)) h ∙ sym (held l (reverseAux (str m) v) e)
 
-close-marks : (l v : List ℕ) (m : String) → begins 32 v ≡ false → begins 32 (reverseAux (str m) v) ≡ false → marks m true (hold l v) ≡ hold l (reverseAux (str m) v)
+close-marks : (l v : List ℕ) (m : String) → begins 32 v ≡ false → begins 32 (reverseAux (str m) v) ≡ false → marks (str m) true (hold l v) ≡ hold l (reverseAux (str m) v)
 unfolding marks
 close-marks l v m d e = ap (push-str (str m)) (held l v d) ∙ sym (held l (reverseAux (str m) v) e)
 

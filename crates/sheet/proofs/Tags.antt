@@ -32,29 +32,29 @@ step t s c d h e =
     one-less n = omega arith
 
 module _ (l o : List ℕ) (b : Bool) (s : List ℕ) (h : Low o) where
-  pub loop-strong : loop 0 (str "<strong>" ++ s) (st l o b) ≡ loop 0 s (marks "**" false (st l o b))
+  pub loop-strong : loop 0 (str "<strong>" ++ s) (st l o b) ≡ loop 0 s (marks (str "**") false (st l o b))
   unfolding turn index words text unescape put-all markup a-tag inside take-while drop-while trim-end-matches is-space element shown listed tag-of tags tag
-  loop-strong = step (str "strong>") s (st l o b) (marks "**" false (st l o b)) h refl
+  loop-strong = step (str "strong>") s (st l o b) (marks (str "**") false (st l o b)) h refl
 
-  pub loop-strong/ : loop 0 (str "</strong>" ++ s) (st l o b) ≡ loop 0 s (marks "**" true (st l o b))
+  pub loop-strong/ : loop 0 (str "</strong>" ++ s) (st l o b) ≡ loop 0 s (marks (str "**") true (st l o b))
   unfolding turn index words text unescape put-all markup a-tag inside take-while drop-while trim-end-matches is-space element shown listed tag-of tags tag
-  loop-strong/ = step (str "/strong>") s (st l o b) (marks "**" true (st l o b)) h refl
+  loop-strong/ = step (str "/strong>") s (st l o b) (marks (str "**") true (st l o b)) h refl
 
-  pub loop-em : loop 0 (str "<em>" ++ s) (st l o b) ≡ loop 0 s (marks "*" false (st l o b))
+  pub loop-em : loop 0 (str "<em>" ++ s) (st l o b) ≡ loop 0 s (marks (str "*") false (st l o b))
   unfolding turn index words text unescape put-all markup a-tag inside take-while drop-while trim-end-matches is-space element shown listed tag-of tags tag
-  loop-em = step (str "em>") s (st l o b) (marks "*" false (st l o b)) h refl
+  loop-em = step (str "em>") s (st l o b) (marks (str "*") false (st l o b)) h refl
 
-  pub loop-em/ : loop 0 (str "</em>" ++ s) (st l o b) ≡ loop 0 s (marks "*" true (st l o b))
+  pub loop-em/ : loop 0 (str "</em>" ++ s) (st l o b) ≡ loop 0 s (marks (str "*") true (st l o b))
   unfolding turn index words text unescape put-all markup a-tag inside take-while drop-while trim-end-matches is-space element shown listed tag-of tags tag
-  loop-em/ = step (str "/em>") s (st l o b) (marks "*" true (st l o b)) h refl
+  loop-em/ = step (str "/em>") s (st l o b) (marks (str "*") true (st l o b)) h refl
 
-  pub loop-code : loop 0 (str "<code>" ++ s) (st l o b) ≡ loop 0 s (marks "`" false (st l o b))
+  pub loop-code : loop 0 (str "<code>" ++ s) (st l o b) ≡ loop 0 s (marks (str "`") false (st l o b))
   unfolding turn index words text unescape put-all markup a-tag inside take-while drop-while trim-end-matches is-space element shown listed tag-of tags tag
-  loop-code = step (str "code>") s (st l o b) (marks "`" false (st l o b)) h refl
+  loop-code = step (str "code>") s (st l o b) (marks (str "`") false (st l o b)) h refl
 
-  pub loop-code/ : loop 0 (str "</code>" ++ s) (st l o b) ≡ loop 0 s (marks "`" true (st l o b))
+  pub loop-code/ : loop 0 (str "</code>" ++ s) (st l o b) ≡ loop 0 s (marks (str "`") true (st l o b))
   unfolding turn index words text unescape put-all markup a-tag inside take-while drop-while trim-end-matches is-space element shown listed tag-of tags tag
-  loop-code/ = step (str "/code>") s (st l o b) (marks "`" true (st l o b)) h refl
+  loop-code/ = step (str "/code>") s (st l o b) (marks (str "`") true (st l o b)) h refl
 
   pub loop-p : loop 0 (str "<p>" ++ s) (st l o b) ≡ loop 0 s (block (st l o b))
   unfolding turn index words text unescape put-all markup a-tag inside take-while drop-while trim-end-matches is-space element shown listed tag-of tags tag

@@ -9,7 +9,7 @@ use lib.Dec.{eqb}
 use Rattle.text.specs.Words.{is-empty}
 use Rattle.text.specs.Chars.{is-space}
 use Rattle.text.proofs.Tests.{and-true, and-true-right}
-use Rattle.html.specs.State.{State, with-out, line-start, spaced, special, ends-with-digit, escape, put, next, put-all}
+use Rattle.html.specs.State.{State, with-out, line-start, spaced, special, opens, ends-with-digit, escape, put, blank, paused, next, put-all}
 use Rattle.sheet.specs.Grammar.{last-is, no-blank}
 use Rattle.sheet.specs.Written.{escaped}
 use Rattle.sheet.proofs.Facts.{false-true, no-space}
@@ -87,11 +87,11 @@ module _ (l : List ℕ) where
 
   -- a space is held back
   next-blank : (f : Bool) (v : List ℕ) → inline v ≡ true → begins 32 v ≡ false → next f 32 (hold v) ≡ (f, hold (32 ∷ v))
-  unfolding next is-space
+  unfolding next blank paused is-space
   next-blank f v i e = ap (next f 32) (held v e) ∙ rw (line-start-is v, i) (ap (λ (c : State). (f, c)) (sym (hold-blank v)))
 
   put-inline : (f : Bool) (x : ℕ) (v : List ℕ) → inline v ≡ true → (f && ends-with-digit v) ≡ false → put f x (st l v false) ≡ st l (reverseAux (shielded x) v) false
-  unfolding put escape
+  unfolding put escape opens
   put-inline f x v i d = simp (line-start-is v, i, d, or-false, and-true-right)
 
   pushed : (x : ℕ) (v : List ℕ) → eqb x 32 ≡ false → begins 32 (reverseAux (shielded x) v) ≡ false
@@ -103,7 +103,7 @@ module _ (l : List ℕ) where
       go false = e
 
   next-shown : (f : Bool) (x : ℕ) (v : List ℕ) → inline v ≡ true → is-space x ≡ false → (f && ends-with-digit v) ≡ false → next f x (hold v) ≡ (false, hold (reverseAux (shielded x) v))
-  unfolding next
+  unfolding next blank
   next-shown f x v i s d =
       rw s (ap (λ (c : State). (false, c)) (ap (put f x) (hold-spaced v) ∙ put-inline f x v i d ∙ sym (held _ (pushed x v (not-blank x s)))))
 
@@ -186,8 +186,8 @@ no-blank-end (x ∷ y ∷ t) v e =
 -- byte 10 after a text: what is pending may change, and nothing else
 
 same-pre : (f : Bool) (x : ℕ) (c : State) → c .pre ≡ false → next f x c .1 .pre ≡ false
-unfolding next put spaced
-same-pre f x c e = go (not (c .pre) && is-space x) (c .space)
+unfolding next paused put spaced
+same-pre f x c e = go (blank (c .pre) x) (c .space)
   where
     go : (a b : Bool) → (cond {A = Bool × State} a (f, with-out (c .out) (not (line-start (c .out))) c) (false, put f x (cond b (with-out (32 ∷ c .out) false c) c))) .1 .pre ≡ false
     go true b = e
@@ -195,7 +195,7 @@ same-pre f x c e = go (not (c .pre) && is-space x) (c .space)
     go false false = e
 
 nl-first : (f : Bool) (c : State) → c .pre ≡ false → put-all f (10 ∷ []) c ≡ put-all true (10 ∷ []) c
-unfolding put-all next is-space
+unfolding put-all next blank is-space
 nl-first f c e = rw e
 
 pub put-nl : (f : Bool) (t : List ℕ) (c : State) → c .pre ≡ false → put-all f (t ++ (10 ∷ [])) c ≡ put-all true (10 ∷ []) (put-all f t c)
