@@ -15,13 +15,13 @@ pub fn is_space(c: u32) -> bool
     if c < 0x80 {
         return within(9, 13, c) | (c == 32);
     }
+    if 0x2060 <= c {
+        return c == 12288;
+    }
     if c < 0x2000 {
         return (c == 133) | (c == 160) | (c == 5760);
     }
-    if c < 0x2060 {
-        return within(8192, 8202, c) | (c == 8232) | (c == 8233) | (c == 8239) | (c == 8287);
-    }
-    c == 12288
+    within(8192, 8202, c) | (c == 8232) | (c == 8233) | (c == 8239) | (c == 8287)
 }
 
 pub fn is_control(c: u32) -> bool
