@@ -30,6 +30,13 @@ data Above (s : List ℕ) (i : ℕ) : Type 0 where
   four : (c : ℕ) → c ≡ code-at s i → 0x10000 ≤ c → c < 0x110000 → length (utf8 c) ≡ 4 → i + 4 ≤ length s
       → getD s i 0 ≡ 0xF0 + c / 262144 → getD s (i + 1) 0 ≡ 0x80 + c / 4096 % 64 → getD s (i + 2) 0 ≡ 0x80 + c / 64 % 64 → getD s (i + 3) 0 ≡ 0x80 + c % 64 → Above s i
 
+-- the first byte, and one after it: there, part of the character, and in its range
+abbrev pub Lead : List ℕ → ℕ → Type 0
+Lead s i = (0xC2 ≤ getD s i 0) × (getD s i 0 < 0xF5)
+
+abbrev pub Tail : List ℕ → ℕ → ℕ → Type 0
+Tail s i k = (i + k < length s) × ((k < length (utf8 (code-at s i))) × ((0x80 ≤ getD s (i + k) 0) × (getD s (i + k) 0 < 0xC0)))
+
 module _ (s : List ℕ) (i : ℕ) (l : i < length s) (h : Scalars (chars (drop i s))) (a : 0x80 ≤ getD s i 0) where
   abbrev code : ℕ
   code = code-at s i
@@ -73,37 +80,34 @@ module _ (s : List ℕ) (i : ℕ) (l : i < length s) (h : Scalars (chars (drop i
       (byte-is 2 4 e (omega arith) ∙ ap (λ (x : List ℕ). getD x 2 0) u) (byte-is 3 4 e (omega arith) ∙ ap (λ (x : List ℕ). getD x 3 0) u))
 
   -- ---- a byte after the first, where the first says that it is there
-  abbrev Tail : ℕ → Type 0
-  Tail k = (i + k < length s) × ((k < length (utf8 code)) × ((0x80 ≤ getD s (i + k) 0) × (getD s (i + k) 0 < 0xC0)))
-
-  pub lead : (0xC2 ≤ getD s i 0) × (getD s i 0 < 0xF5)
+  pub lead : Lead s i
   lead = go above
     where
-      go : Above s i → (0xC2 ≤ getD s i 0) × (getD s i 0 < 0xF5)
+      go : Above s i → Lead s i
       go (two c q k m e r x y) = (omega arith, omega arith)
       go (three c q k m e r x y z) = (omega arith, omega arith)
       go (four c q k m e r x y z w) = (omega arith, omega arith)
 
-  pub tail-1 : Tail 1
+  pub tail-1 : Tail s i 1
   tail-1 = go above
     where
-      go : Above s i → Tail 1
+      go : Above s i → Tail s i 1
       go (two c q k m e r x y) = (omega arith, (rw (← q) (omega arith), (omega arith, omega arith)))
       go (three c q k m e r x y z) = (omega arith, (rw (← q) (omega arith), (omega arith, omega arith)))
       go (four c q k m e r x y z w) = (omega arith, (rw (← q) (omega arith), (omega arith, omega arith)))
 
-  pub tail-2 : 0xE0 ≤ getD s i 0 → Tail 2
+  pub tail-2 : 0xE0 ≤ getD s i 0 → Tail s i 2
   tail-2 g = go above
     where
-      go : Above s i → Tail 2
+      go : Above s i → Tail s i 2
       go (two c q k m e r x y) = absurd (omega arith)
       go (three c q k m e r x y z) = (omega arith, (rw (← q) (omega arith), (omega arith, omega arith)))
       go (four c q k m e r x y z w) = (omega arith, (rw (← q) (omega arith), (omega arith, omega arith)))
 
-  pub tail-3 : 0xF0 ≤ getD s i 0 → Tail 3
+  pub tail-3 : 0xF0 ≤ getD s i 0 → Tail s i 3
   tail-3 g = go above
     where
-      go : Above s i → Tail 3
+      go : Above s i → Tail s i 3
       go (two c q k m e r x y) = absurd (omega arith)
       go (three c q k m e r x y z) = absurd (omega arith)
       go (four c q k m e r x y z w) = (omega arith, (rw (← q) (omega arith), (omega arith, omega arith)))
