@@ -2,6 +2,7 @@
 -- Assumes nothing.
 use Prim.Native.Nat.{ℕ, zero, suc, _+_, _-_, _*_, _≤_, _<_}
 use native.Mathlib.Omega.{arith}
+use native.Mathlib.Nat.{zero-add}
 use native.Mathlib.Numerals.{add-one, sub-one}
 use mathlib.Core.Path.{_≡_, refl, sym, ap, _∙_, subst}
 use mathlib.Core.Bool.{Bool, true, false, cond, _&&_}
@@ -69,59 +70,82 @@ left-tag : (s : List ℕ) (n : ℕ) (o : Option State) → left s (tag-read n o)
 left-tag s n none = refl
 left-tag s n (some d) = refl
 
+module _ (r : List ℕ) (d : State) where
+  all-left : drop (0 + length r) r ≡ []
+  all-left = ap (λ (k : ℕ). drop k r) (zero-add (length r)) ∙ drop-length r
+
+  markup-comment : starts "<!--" r ≡ true → left r (markup 0 r d) ≡ some (closed (drop 4 r), d)
+  unfolding markup comment
+  markup-comment t = rw t (go (find "-->" (drop 4 r)) refl)
+    where
+      go : (o : Option ℕ) → find "-->" (drop 4 r) ≡ o → left r (case o (read (0 + length r) d) (λ end. read (0 + 4 + end + 3) d)) ≡ some (closed (drop 4 r), d)
+      go none q = ap (λ (l : List ℕ). some (l, d)) (all-left ∙ sym (ap (λ o. case o [] (λ end. drop (end + 3) (drop 4 r))) q) ∙ comment-left (drop 4 r))
+      go (some end) q =
+          let n : 0 + 4 + end + 3 ≡ 4 + (end + 3) = omega arith in
+          ap (λ (l : List ℕ). some (l, d))
+          (ap (λ (k : ℕ). drop k r) n ∙ sym (drop-drop (end + 3) 4 r) ∙ sym (ap (λ o. case o [] (λ end. drop (end + 3) (drop 4 r))) q) ∙ comment-left (drop 4 r))
+
+  markup-unclosed : starts "<!--" r ≡ false → since 62 r ≡ [] → left r (markup 0 r d) ≡ some ([], d)
+  unfolding markup a-tag
+  markup-unclosed t e = rw (t, index-none 62 r e) (ap (λ (l : List ℕ). some (l, d)) all-left)
+
+  markup-tag : starts "<!--" r ≡ false → 0 < length (since 62 r)
+      → left r (markup 0 r d) ≡ tag-left (drop 1 (since 62 r)) (inside (trim (drop 1 (until 62 r))) d)
+  unfolding markup a-tag
+  markup-tag t g =
+      let n : 0 + length (until 62 r) + 1 ≡ length (until 62 r) + 1 = omega arith in
+      rw (t, index-some 62 r g, take-until 62 r)
+      (left-tag r (0 + length (until 62 r) + 1) (inside (trim (drop 1 (until 62 r))) d)
+      ∙ ap (λ (l : List ℕ). tag-left l (inside (trim (drop 1 (until 62 r))) d)) (ap (λ (k : ℕ). drop k r) n ∙ drop-until 62 1 r))
+
+-- what starts with `<` leaves the same, whether the text before it is counted or not
+module _ (s : List ℕ) (u : ℕ) (d : State) where
+  abbrev r : List ℕ
+  r = drop u s
+
+  further : (k n : ℕ) → k ≡ u + n → drop k s ≡ drop n r
+  further k n e = ap (λ (j : ℕ). drop j s) e ∙ sym (drop-drop n u s)
+
+  markup-at : left s (markup u r d) ≡ left r (markup 0 r d)
+  unfolding markup comment a-tag
+  markup-at = go (starts "<!--" r) (find "-->" (drop 4 r)) (find ">" r)
+    where
+      after : (k n : ℕ) → k ≡ u + n → (o : Option State) → left s (tag-read k o) ≡ left r (tag-read n o)
+      after k n e none = refl
+      after k n e (some x) = ap (λ (l : List ℕ). some (l, x)) (further k n e)
+
+      go : (b : Bool) (o p : Option ℕ)
+          → left s (cond b (case o (read (u + length r) d) (λ end. read (u + 4 + end + 3) d)) (case p (read (u + length r) d) (λ end. tag-read (u + end + 1) (inside (trim (drop 1 (take end r))) d))))
+          ≡ left r (cond b (case o (read (0 + length r) d) (λ end. read (0 + 4 + end + 3) d)) (case p (read (0 + length r) d) (λ end. tag-read (0 + end + 1) (inside (trim (drop 1 (take end r))) d))))
+      go true none p = ap (λ (l : List ℕ). some (l, d)) (further (u + length r) (0 + length r) (omega arith))
+      go true (some end) p = ap (λ (l : List ℕ). some (l, d)) (further (u + 4 + end + 3) (0 + 4 + end + 3) (omega arith))
+      go false o none = ap (λ (l : List ℕ). some (l, d)) (further (u + length r) (0 + length r) (omega arith))
+      go false o (some end) = after (u + end + 1) (0 + end + 1) (omega arith) (inside (trim (drop 1 (take end r))) d)
+
 module _ (s : List ℕ) (c : State) where
   turn-text : since 60 s ≡ [] → left s (turn s c) ≡ some ([], words s c)
   unfolding turn
   turn-text e = rw (index-none 60 s e, drop-length s)
 
-  module _ (h : 0 < length (since 60 s)) where
-    abbrev u : ℕ
-    u = length (until 60 s)
-
-    abbrev d : State
-    d = words (until 60 s) c
-
-    turn-open : turn s c ≡ markup u (since 60 s) d
-    unfolding turn
-    turn-open =
-        let z : drop u s ≡ since 60 s = ap (drop u) (sym (until-since 60 s)) ∙ drop-append-seam (until 60 s) (since 60 s) in
-        rw (index-some 60 s h, take-until 60 s, z)
-
-    all-left : drop (u + length (since 60 s)) s ≡ []
-    all-left = drop-until 60 (length (since 60 s)) s ∙ drop-length (since 60 s)
-
-    turn-comment : starts "<!--" (since 60 s) ≡ true → left s (turn s c) ≡ some (closed (drop 4 (since 60 s)), d)
-    unfolding markup comment
-    turn-comment t = ap (left s) turn-open ∙ rw t (go (find "-->" (drop 4 (since 60 s))) refl)
-      where
-        go : (o : Option ℕ) → find "-->" (drop 4 (since 60 s)) ≡ o
-            → left s (case o (read (u + length (since 60 s)) d) (λ end. read (u + 4 + end + 3) d)) ≡ some (closed (drop 4 (since 60 s)), d)
-        go none q = ap (λ (l : List ℕ). some (l, d)) (all-left ∙ sym (ap (λ o. case o [] (λ end. drop (end + 3) (drop 4 (since 60 s)))) q) ∙ comment-left (drop 4 (since 60 s)))
-        go (some end) q =
-            let n : u + 4 + end + 3 ≡ u + (4 + (end + 3)) = omega arith in
-            ap (λ (l : List ℕ). some (l, d))
-            (ap (λ (k : ℕ). drop k s) n ∙ drop-until 60 (4 + (end + 3)) s ∙ sym (drop-drop (end + 3) 4 (since 60 s))
-            ∙ sym (ap (λ o. case o [] (λ end. drop (end + 3) (drop 4 (since 60 s)))) q)
-            ∙ comment-left (drop 4 (since 60 s)))
-
-    turn-unclosed : starts "<!--" (since 60 s) ≡ false → since 62 (since 60 s) ≡ [] → left s (turn s c) ≡ some ([], d)
-    unfolding markup a-tag
-    turn-unclosed t e = ap (left s) turn-open ∙ rw (t, index-none 62 (since 60 s) e) (ap (λ (l : List ℕ). some (l, d)) all-left)
-
-    turn-tag : starts "<!--" (since 60 s) ≡ false → 0 < length (since 62 (since 60 s))
-        → left s (turn s c) ≡ tag-left (drop 1 (since 62 (since 60 s))) (inside (trim (drop 1 (until 62 (since 60 s)))) d)
-    unfolding markup a-tag
-    turn-tag t g =
-        let r = since 60 s in
-        let n : u + length (until 62 r) + 1 ≡ u + (length (until 62 r) + 1) = omega arith in
-        let q : drop (u + length (until 62 r) + 1) s ≡ drop 1 (since 62 r) = ap (λ (k : ℕ). drop k s) n ∙ drop-until 60 (length (until 62 r) + 1) s ∙ drop-until 62 1 r in
-        ap (left s) turn-open
-        ∙ rw (t, index-some 62 r g, take-until 62 r)
-        (left-tag s (u + length (until 62 r) + 1) (inside (trim (drop 1 (until 62 r))) d) ∙ ap (λ (l : List ℕ). tag-left l (inside (trim (drop 1 (until 62 r))) d)) q)
+  turn-open : 0 < length (since 60 s) → left s (turn s c) ≡ left (since 60 s) (markup 0 (since 60 s) (words (until 60 s) c))
+  unfolding turn
+  turn-open h =
+      let u = length (until 60 s) in
+      let z : drop u s ≡ since 60 s = ap (drop u) (sym (until-since 60 s)) ∙ drop-append-seam (until 60 s) (since 60 s) in
+      rw (index-some 60 s h, take-until 60 s) (markup-at s u (words (until 60 s) c) ∙ ap (λ (l : List ℕ). left l (markup 0 l (words (until 60 s) c))) z)
 
 -- ---- the same in bytes
 chars-past : (h : List ℕ) → [] ≡ chars (drop (length h) h)
 chars-past h = sym (advance-end h (length h) (omega arith))
+
+-- a mark that was found, as the first of what is left
+pub mark-is : (h : List ℕ) (at b j : ℕ) → IsHere h at b j → getD h j 0 ≡ b
+mark-is h at b j f =
+    let s : 0 < length (since b (drop at h)) = omega (arith, ap length (f .since-is), length-drop j h, f .bound) in
+    ap (λ (l : List ℕ). getD l 0 0) (sym (drop-cons h j 0 (f .bound)) ∙ f .since-is) ∙ since-head b (drop at h) s
+
+ascii-next : (h : List ℕ) (j b : ℕ) → j < length h → getD h j 0 ≡ b → b < 0x80 → chars (drop j h) ≡ b ∷ chars (drop (j + 1) h)
+ascii-next h j b l e m = ap chars (drop-cons h j 0 l) ∙ chars-ascii (getD h j 0) (drop (suc j) h) (omega arith) ∙ rw (e, add-one j)
 
 module _ (h : List ℕ) (at : ℕ) (c : State) where
   abbrev rest : List ℕ
@@ -139,83 +163,57 @@ module _ (h : List ℕ) (at : ℕ) (c : State) where
     pub piece-is : chars (take (j - at) (drop at h)) ≡ until 60 rest
     piece-is = ap chars (f .until-is) ∙ chars-until 60 (omega arith) (drop at h)
 
-    since-is : chars (drop j h) ≡ since 60 rest
-    since-is = ap chars (f .since-is) ∙ chars-since 60 (omega arith) (drop at h)
+    pub bytes-open : (d : State) → d ≡ words (chars (take (j - at) (drop at h))) c → left (chars (drop j h)) (markup 0 (chars (drop j h)) d) ≡ left rest (turn rest c)
+    bytes-open d q =
+        let z : chars (drop j h) ≡ since 60 rest = ap chars (f .since-is) ∙ chars-since 60 (omega arith) (drop at h) in
+        let m : 0 < length (since 60 rest) = omega (arith, ap length (sym z ∙ ascii-next h j 60 (f .bound) (mark-is h at 60 j f) (omega arith))) in
+        ap (λ (l : List ℕ). left l (markup 0 l d)) z
+        ∙ ap (λ (x : State). left (since 60 rest) (markup 0 (since 60 rest) x)) (q ∙ ap (λ (l : List ℕ). words l c) piece-is)
+        ∙ sym (turn-open rest c m)
 
-    bytes-some : 0 < length (since 60 (drop at h))
-    bytes-some = omega (arith, ap length (f .since-is), length-drop j h, f .bound)
+module _ (h : List ℕ) (j : ℕ) (d : State) (t : Bool) (e : t ≡ starts "<!--" (drop j h)) where
+  abbrev mark : List ℕ
+  mark = chars (drop j h)
 
-    pub first-is : getD h j 0 ≡ 60
-    first-is =
-        ap (λ (l : List ℕ). getD l 0 0) (sym (drop-cons h j 0 (f .bound)) ∙ f .since-is) ∙ since-head 60 (drop at h) bytes-some
+  starts-is : starts "<!--" mark ≡ t
+  starts-is = starts-chars (60 ∷ 33 ∷ 45 ∷ 45 ∷ []) (drop j h) (omega arith, (omega arith, (omega arith, (omega arith, tt)))) ∙ sym e
 
-    next-is : chars (drop j h) ≡ 60 ∷ chars (drop (j + 1) h)
-    next-is = ap chars (drop-cons h j 0 (f .bound)) ∙ chars-ascii (getD h j 0) (drop (suc j) h) (omega (arith, first-is)) ∙ rw (first-is, add-one j)
+  pub bytes-comment : (r : ℕ) → t ≡ true → drop r h ≡ closed (drop (j + 4) h) → some (chars (drop r h), d) ≡ left mark (markup 0 mark d)
+  bytes-comment r y g =
+      let p : chars (drop (j + 4) h) ≡ drop 4 mark = ap chars (sym (drop-drop 4 j h)) ∙ drop-chars (60 ∷ 33 ∷ 45 ∷ 45 ∷ []) (drop j h) (omega arith, (omega arith, (omega arith, (omega arith, tt)))) (sym e ∙ y) in
+      sym (markup-comment mark d (starts-is ∙ y) ∙ ap (λ (l : List ℕ). some (l, d)) (sym (ap chars g ∙ closed-chars (drop (j + 4) h) ∙ ap closed p)))
 
-    some-left : 0 < length (since 60 rest)
-    some-left = omega (arith, ap length (sym since-is ∙ next-is))
+  pub bytes-unclosed : t ≡ false → found j (index (62 ∷ []) (drop j h)) ≡ Nowhere → some (chars (drop (length h) h), d) ≡ left mark (markup 0 mark d)
+  bytes-unclosed n g =
+      let z : since 62 mark ≡ [] = sym (chars-since 62 (omega arith) (drop j h)) ∙ ap chars (found-nowhere h j 62 g) ∙ chars-nil in
+      sym (markup-unclosed mark d (starts-is ∙ n) z ∙ ap (λ (l : List ℕ). some (l, d)) (chars-past h))
 
-    starts-is : (t : Bool) → t ≡ starts "<!--" (drop j h) → starts "<!--" (since 60 rest) ≡ t
-    starts-is t e = ap (starts "<!--") (sym since-is) ∙ starts-chars (60 ∷ 33 ∷ 45 ∷ 45 ∷ []) (drop j h) (omega arith, (omega arith, (omega arith, (omega arith, tt)))) ∙ sym e
+  module _ (l : j < length h) (f : getD h j 0 ≡ 60) (end : ℕ) (g : IsHere h j 62 end) where
+    pub end-after : j + 1 ≤ end
+    end-after = go (ltb j end) refl
+      where
+        go : (b : Bool) → ltb j end ≡ b → j + 1 ≤ end
+        go true y = omega (arith, ltb-true j end y)
+        go false y =
+            let z : end ≡ j = omega (arith, ltb-false j end y, g .low) in
+            absurd (omega (arith, sym (mark-is h j 62 end g) ∙ ap (λ (k : ℕ). getD h k 0) z ∙ f))
 
-    module _ (d : State) (q : d ≡ words (chars (take (j - at) (drop at h))) c) where
-      state-is : words (until 60 rest) c ≡ d
-      state-is = sym (q ∙ ap (λ (l : List ℕ). words l c) piece-is)
+    since-end : since 62 mark ≡ 62 ∷ chars (drop (end + 1) h)
+    since-end = sym (chars-since 62 (omega arith) (drop j h)) ∙ ap chars (sym (g .since-is)) ∙ ascii-next h end 62 (g .bound) (mark-is h j 62 end g) (omega arith)
 
-      pub bytes-comment : (t : Bool) (r : ℕ) → t ≡ starts "<!--" (drop j h) → t ≡ true → drop r h ≡ closed (drop (j + 4) h)
-          → some (chars (drop r h), d) ≡ left rest (turn rest c)
-      bytes-comment t r e y g =
-          let p : chars (drop (j + 4) h) ≡ drop 4 (since 60 rest) =
-          ap chars (sym (drop-drop 4 j h)) ∙ drop-chars (60 ∷ 33 ∷ 45 ∷ 45 ∷ []) (drop j h) (omega arith, (omega arith, (omega arith, (omega arith, tt)))) (sym e ∙ y) ∙ ap (drop 4) since-is in
-          sym (turn-comment rest c some-left (starts-is t e ∙ y) ∙ ap (λ (x : State). some (closed (drop 4 (since 60 rest)), x)) state-is
-          ∙ ap (λ (l : List ℕ). some (l, d)) (sym (ap chars g ∙ closed-chars (drop (j + 4) h) ∙ ap closed p)))
+    inner-is : drop 1 (until 62 mark) ≡ chars (take (end - (j + 1)) (drop (j + 1) h))
+    inner-is =
+        let k = end-after in
+        let m : end - j ≡ suc (end - (j + 1)) = omega arith in
+        let x : take (end - j) (drop j h) ≡ getD h j 0 ∷ take (end - (j + 1)) (drop (j + 1) h) = rw (m, drop-cons h j 0 l, add-one j) in
+        ap (drop 1) (sym (chars-until 62 (omega arith) (drop j h)) ∙ ap chars (sym (g .until-is) ∙ x) ∙ chars-ascii (getD h j 0) _ (omega arith))
 
-      pub bytes-unclosed : (t : Bool) → t ≡ starts "<!--" (drop j h) → t ≡ false → found j (index (62 ∷ []) (drop j h)) ≡ Nowhere
-          → some (chars (drop (length h) h), d) ≡ left rest (turn rest c)
-      bytes-unclosed t e n g =
-          let z : since 62 (since 60 rest) ≡ [] = ap (since 62) (sym since-is) ∙ sym (chars-since 62 (omega arith) (drop j h)) ∙ ap chars (found-nowhere h j 62 g) ∙ chars-nil in
-          sym (turn-unclosed rest c some-left (starts-is t e ∙ n) z ∙ ap (λ (x : State). some ([], x)) state-is ∙ ap (λ (l : List ℕ). some (l, d)) (chars-past h))
-
-      module _ (t : Bool) (e : t ≡ starts "<!--" (drop j h)) (n : t ≡ false) (end : ℕ) (g : IsHere h j 62 end) where
-        until-end : until 62 (since 60 rest) ≡ chars (take (end - j) (drop j h))
-        until-end = ap (until 62) (sym since-is) ∙ sym (chars-until 62 (omega arith) (drop j h)) ∙ ap chars (sym (g .until-is))
-
-        since-end : since 62 (since 60 rest) ≡ chars (drop end h)
-        since-end = ap (since 62) (sym since-is) ∙ sym (chars-since 62 (omega arith) (drop j h)) ∙ ap chars (sym (g .since-is))
-
-        last-is : getD h end 0 ≡ 62
-        last-is =
-            let s : 0 < length (since 62 (drop j h)) = omega (arith, ap length (g .since-is), length-drop end h, g .bound) in
-            ap (λ (l : List ℕ). getD l 0 0) (sym (drop-cons h end 0 (g .bound)) ∙ g .since-is) ∙ since-head 62 (drop j h) s
-
-        pub end-after : j + 1 ≤ end
-        end-after = go (ltb j end) refl
-          where
-            go : (b : Bool) → ltb j end ≡ b → j + 1 ≤ end
-            go true y = omega (arith, ltb-true j end y)
-            go false y =
-                let z : end ≡ j = omega (arith, ltb-false j end y, g .low) in
-                absurd (omega (arith, sym last-is ∙ ap (λ (k : ℕ). getD h k 0) z ∙ first-is))
-
-        after-end : drop 1 (since 62 (since 60 rest)) ≡ chars (drop (end + 1) h)
-        after-end =
-            ap (drop 1) (since-end ∙ ap chars (drop-cons h end 0 (g .bound)) ∙ chars-ascii (getD h end 0) (drop (suc end) h) (omega (arith, last-is)))
-            ∙ rw (add-one end)
-
-        inner-is : drop 1 (until 62 (since 60 rest)) ≡ chars (take (end - (j + 1)) (drop (j + 1) h))
-        inner-is =
-            let k = end-after in
-            let m : end - j ≡ suc (end - (j + 1)) = omega arith in
-            let x : take (end - j) (drop j h) ≡ getD h j 0 ∷ take (end - (j + 1)) (drop (j + 1) h) = rw (m, drop-cons h j 0 (f .bound), add-one j) in
-            ap (drop 1) (until-end ∙ ap chars x ∙ chars-ascii (getD h j 0) _ (omega (arith, first-is)))
-
-        pub bytes-tag : (bs : List ℕ) (o : Option State) → bs ≡ encode (trim (chars (take (end - (j + 1)) (drop (j + 1) h)))) → o ≡ inside (chars bs) d
-            → tag-left (chars (drop (end + 1) h)) o ≡ left rest (turn rest c)
-        bytes-tag bs o b i =
-            let s : 0 < length (since 62 (since 60 rest)) = omega (arith, ap length (since-end ∙ ap chars (drop-cons h end 0 (g .bound)) ∙ chars-ascii (getD h end 0) (drop (suc end) h) (omega (arith, last-is)))) in
-            let p : chars bs ≡ trim (drop 1 (until 62 (since 60 rest))) = ap chars b ∙ chars-trim (take (end - (j + 1)) (drop (j + 1) h)) ∙ ap trim (sym inner-is) in
-            sym (turn-tag rest c some-left (starts-is t e ∙ n) s ∙ ap (λ (l : List ℕ). tag-left l (inside (trim (drop 1 (until 62 (since 60 rest)))) (words (until 60 rest) c))) after-end
-            ∙ ap (tag-left (chars (drop (end + 1) h))) (sym (i ∙ ap (λ (l : List ℕ). inside l d) p ∙ ap (inside (trim (drop 1 (until 62 (since 60 rest))))) (sym state-is))))
+    pub bytes-tag : t ≡ false → (bs : List ℕ) (o : Option State) → bs ≡ encode (trim (chars (take (end - (j + 1)) (drop (j + 1) h)))) → o ≡ inside (chars bs) d
+        → tag-left (chars (drop (end + 1) h)) o ≡ left mark (markup 0 mark d)
+    bytes-tag n bs o b i =
+        let p : chars bs ≡ trim (drop 1 (until 62 mark)) = ap chars b ∙ chars-trim (take (end - (j + 1)) (drop (j + 1) h)) ∙ ap trim (sym inner-is) in
+        sym (markup-tag mark d (starts-is ∙ n) (omega (arith, ap length since-end)) ∙ ap (λ (x : List ℕ). tag-left x (inside (trim (drop 1 (until 62 mark))) d)) (ap (drop 1) since-end)
+        ∙ ap (tag-left (chars (drop (end + 1) h))) (sym (i ∙ ap (λ (x : List ℕ). inside x d) p)))
 
 pub turned-tag : (t : Tagged) (m w l : List ℕ) → (if t .ok then some (l, state-of (t .state) m w) else none) ≡ tag-left l (tagged t m w)
 unfolding tagged

@@ -11,10 +11,10 @@ ghost use mathlib.Core.Path.{_≡_};
 ghost use Prim.Native.Nat.{ℕ, _+_, _*_, _^_, _≤_, _<_};
 ghost use mathlib.Core.List.{List};
 ghost use mathlib.Core.Bool.{true};
-ghost use lib.ListN.{length, drop};
+ghost use lib.ListN.{length, getD, drop};
 ghost use Rattle.text.specs.Utf8.{Scalars, chars};
 ghost use Rattle.html.specs.State.{new, with-skip};
-ghost use Rattle.html.specs.Page.{name-of, element, inside, words, turn, loop};
+ghost use Rattle.html.specs.Page.{name-of, element, inside, words, markup, turn, loop};
 ghost use Rattle.html.specs.Struct.{state-of, lists-of, number, skip-name, tagged, turned, left, closed};
 
 impl Converter {
@@ -83,6 +83,40 @@ impl Converter {
         self
     }
 
+    // What starts with the `<` at lt: a comment or a tag.
+    fn markup(self, lists: &mut [usize], out: &mut [u8], html: &[u8], lt: usize) -> Turned
+        requires { ⌜ (lt < length (now html)) × (getD (now html) lt 0 ≡ 60) ⌝ }
+        requires { ⌜ (self .depth ≤ 64) × (64 ≤ length (now lists)) ⌝ }
+        requires { ⌜ self .len + 149 ≤ length (now out) ⌝ }
+        requires { ⌜ number (lists-of self (now lists)) + 1 < 2 ^ 64 ⌝ }
+        ensures { λ r. ⌜ turned r (now (lists .exit)) (now (out .exit)) (now (html .entry)) ≡ left (chars (drop lt (now (html .entry)))) (markup 0 (chars (drop lt (now (html .entry)))) (state-of self (now (lists .entry)) (now (out .entry)))) ⌝ }
+        ensures { λ r. ⌜ (lt < r .next) × (r .next ≤ length (now (html .entry))) ⌝ }
+    {
+        if text::starts_with(html, lt, b"<!--") {
+            let n = comment_end(html, lt + 4);
+            return Turned {
+                ok: true,
+                next: n,
+                state: self,
+            };
+        }
+        let Found::Here(gt) = text::find(html, lt, b'>') else {
+            return Turned {
+                ok: true,
+                next: html.len(),
+                state: self,
+            };
+        };
+        let from = lt + 1;
+        let t = self.inside(lists, out, text::trim(&html[from..gt]));
+        let s = t.state;
+        Turned {
+            ok: t.ok,
+            next: gt + 1,
+            state: s,
+        }
+    }
+
     // One turn: the text up to a `<`, and the comment or the tag that starts there.
     fn turn(self, lists: &mut [usize], out: &mut [u8], html: &[u8], at: usize) -> Turned
         requires { ⌜ (at < length (now html)) × Scalars (chars (drop at (now html))) ⌝ }
@@ -102,29 +136,7 @@ impl Converter {
             };
         };
         let c = self.words(out, &html[at..lt]);
-        if text::starts_with(html, lt, b"<!--") {
-            let n = comment_end(html, lt + 4);
-            return Turned {
-                ok: true,
-                next: n,
-                state: c,
-            };
-        }
-        let Found::Here(gt) = text::find(html, lt, b'>') else {
-            return Turned {
-                ok: true,
-                next: html.len(),
-                state: c,
-            };
-        };
-        let from = lt + 1;
-        let t = c.inside(lists, out, text::trim(&html[from..gt]));
-        let s = t.state;
-        Turned {
-            ok: t.ok,
-            next: gt + 1,
-            state: s,
-        }
+        c.markup(lists, out, html, lt)
     }
 }
 

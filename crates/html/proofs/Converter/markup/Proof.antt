@@ -1,0 +1,100 @@
+-- `Converter::markup` meets its contract: a comment, a tag that is not closed, and a tag.
+-- Assumes nothing.
+use mathlib.Core.Path.{sym, _∙_}
+use native.Mathlib.Omega.{arith}
+use denote.Ref.{now}
+use Prim.Native.Nat.{_+_, _≤_}
+use Rattle.html.specs.State.{new}
+use Rattle.html.specs.Struct.{state-of, turned}
+use Rattle.text.proofs.FindLaws.{IsHere, found-here}
+use Rattle.html.proofs.TurnLaws.{bytes-comment, bytes-unclosed, bytes-tag, end-after, turned-tag, mark-room}
+use borrow.Author.Needs.{needs}
+use Rattle.html.proofs.Converter.markup.Statement.{statement}
+use Rattle.html.proofs.Converter.markup.Tie as tie
+
+-- where the `>` was found, which is after the `<`
+here : (c : tie.After-gt) → IsHere (now (c .before .before .before .before .before .before .before .before .before .args .html)) (c .before .before .before .before .before .before .before .before .before .args .lt) 62 (c .gt .given .0 .0)
+here c =
+    let a = c .before .before .before .before .before .before .before .before .before .args in
+    found-here (now (a .html)) (a .lt) 62 (c .gt .given .0 .0) (sym (c .before .before .find .ensures) ∙ c .gt .given .1)
+
+past : (c : tie.After-gt) → c .before .before .before .before .before .before .before .before .before .args .lt + 1 ≤ c .gt .given .0 .0
+past c =
+    let s = c .before .before .before .before .before .before .before .before .before in
+    end-after (now (s .args .html)) (s .args .lt) new (c .before .before .before .before .starts-with .result) (c .before .before .before .before .starts-with .ensures) (s .pre .0 .0) (s .pre .0 .1) (c .gt .given .0 .0) (here c)
+
+slice-aggregate-starts-with : tie.Need-slice-aggregate-starts-with
+slice-aggregate-starts-with c = search needs
+
+starts-with-requires : tie.Need-starts-with-requires
+starts-with-requires c κs = search needs
+
+add-comment-end : tie.Need-add-comment-end
+add-comment-end c = omega (arith, mark-room (now (c .before .before .before .before .before .before .args .html)) (c .before .before .before .before .before .before .args .lt) (c .before .starts-with .result) (c .before .starts-with .ensures) (c .if1 .taken))
+
+comment-end-requires : tie.Need-comment-end-requires
+comment-end-requires c κs = mark-room (now (c .before .before .before .before .before .before .args .html)) (c .before .before .before .before .before .before .args .lt) (c .before .starts-with .result) (c .before .starts-with .ensures) (c .if1 .taken)
+
+returns : tie.Need-returns
+unfolding turned
+returns c =
+    let a = c .before .before .before .before .before .before .before .args in
+    let h = now (a .html) in
+    (bytes-comment h (a .lt) (state-of (a .self) (now (a .lists)) (now (a .out))) (c .before .before .starts-with .result) (c .before .before .starts-with .ensures) (c .comment-end .result) (c .before .if1 .taken) (c .comment-end .ensures .0), (omega (arith, c .comment-end .ensures .1 .0), c .comment-end .ensures .1 .1))
+
+find-requires : tie.Need-find-requires
+find-requires c κs = search needs
+
+enum-known-gt : tie.Need-enum-known-gt
+enum-known-gt c = search needs
+
+enum-told : tie.Need-enum-told
+enum-told c = search needs
+
+returns-2 : tie.Need-returns-2
+unfolding turned
+returns-2 c =
+    let a = c .before .before .before .before .before .before .before .before .before .args in
+    let h = now (a .html) in
+    (bytes-unclosed h (a .lt) (state-of (a .self) (now (a .lists)) (now (a .out))) (c .before .before .before .before .starts-with .result) (c .before .before .before .before .starts-with .ensures) (c .before .before .before .if1 .left) (sym (c .before .before .find .ensures) ∙ c .enum-told .given .1), (c .before .before .before .before .before .before .before .before .before .pre .0 .0, omega arith))
+
+add-from : tie.Need-add-from
+add-from c = omega (arith, c .before .before .before .before .before .before .before .before .before .before .pre .0 .0, c .before .before .before .before .before .before .before .before .before .before .good)
+
+sub-trim : tie.Need-sub-trim
+sub-trim c = past (c .before .before .before)
+
+part-trim-start : tie.Need-part-trim-start
+part-trim-start c = omega (arith, past (c .before .before .before), here (c .before .before .before) .bound)
+
+part-trim-end : tie.Need-part-trim-end
+part-trim-end c = omega (arith, past (c .before .before .before), here (c .before .before .before) .bound)
+
+trim-requires : tie.Need-trim-requires
+trim-requires c κs = search needs
+
+inside-requires : tie.Need-inside-requires
+inside-requires c κs = c .before .before .before .before .before .before .before .before .before .before .before .before .before .before .pre .1
+
+add-t24 : tie.Need-add-t24
+add-t24 c = omega (arith, here (c .before .before .before .before .before .before .before .before .before .before .before) .bound, c .before .before .before .before .before .before .before .before .before .before .before .before .before .before .before .before .before .before .before .before .good)
+
+same-length : tie.Need-same-length
+same-length c = search needs
+
+same-length-2 : tie.Need-same-length-2
+same-length-2 c = search needs
+
+returns-3 : tie.Need-returns-3
+unfolding turned
+returns-3 c =
+    let a = c .before .before .before .before .before .before .before .before .before .before .before .before .before .before .before .before .before .before .before .before .args in
+    let h = now (a .html) in
+    let e = c .before .before .before .before .before .before .before .before .before .before .before .gt .given .0 .0 in (
+      turned-tag (c .before .before .before .before .before .inside .result) _ _ _
+          ∙ bytes-tag h (a .lt) (state-of (a .self) (now (a .lists)) (now (a .out))) (c .before .before .before .before .before .before .before .before .before .before .before .before .before .before .before .starts-with .result) (c .before .before .before .before .before .before .before .before .before .before .before .before .before .before .before .starts-with .ensures) (c .before .before .before .before .before .before .before .before .before .before .before .before .before .before .before .before .before .before .before .before .pre .0 .0) (c .before .before .before .before .before .before .before .before .before .before .before .before .before .before .before .before .before .before .before .before .pre .0 .1) e (here (c .before .before .before .before .before .before .before .before .before .before .before)) (c .before .before .before .before .before .before .before .before .before .before .before .before .before .before .if1 .left) _ _ (c .before .before .before .before .before .before .trim .ensures) (c .before .before .before .before .before .inside .ensures),
+      (omega (arith, past (c .before .before .before .before .before .before .before .before .before .before .before)), omega (arith, here (c .before .before .before .before .before .before .before .before .before .before .before) .bound)),
+    )
+
+pub markup-spec : {M : Type 1} → statement M
+markup-spec = tie.close (tie.spec slice-aggregate-starts-with starts-with-requires add-comment-end comment-end-requires returns find-requires enum-known-gt enum-told returns-2 add-from sub-trim part-trim-start part-trim-end trim-requires inside-requires add-t24 same-length same-length-2 returns-3)
