@@ -255,7 +255,7 @@ find-key (r ∷ rows) n h k =
     go false e = e
 
 says-key : (s : List ℕ) (k : ℕ) → k ≡ key (name-of s) → says (name-of s) ≡ found table k
-unfolding table says writing key
+unfolding table says writing tags key
 says-key s k e = find-key table (name-of s) refl (name-digits s) ∙ ap (found table) (sym e)
 
 pub says-found : (s : List ℕ) {k j : ℕ} → k ≡ key (name-of s) → k ≡ j → found table j ≡ says (name-of s)
@@ -339,7 +339,7 @@ find-plain (r ∷ rows) n h =
     go false a b = b
 
 pub says-skip : (n : List ℕ) → skip-no (tag-skip (says n)) ≡ (if same (str "script") n then 1 else if same (str "style") n then 2 else 0)
-unfolding writing
+unfolding writing tags
 says-skip n = ap (λ (x : Tag). skip-no (tag-skip x)) (says-first n) ∙ go (same (str "script") n) (same (str "style") n) (find-plain writing n refl)
   where
     go : (a b : Bool) → skip-no (tag-skip (find writing n)) ≡ 0 → skip-no (tag-skip (if a then Skipped Script else if b then Skipped Style else find writing n)) ≡ (if a then 1 else if b then 2 else 0)

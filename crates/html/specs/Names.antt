@@ -2,18 +2,20 @@
 -- Assumes nothing.
 use Prim.Native.Nat.{ℕ, _+_, _-_, _*_}
 use Prim.Native.String.{String}
-use mathlib.Core.List.{List, [], _∷_}
+use mathlib.Core.List.{List, [], _∷_, map}
 use lib.Dec.{leb}
 use lib.ListN.{length}
-use Rattle.text.specs.Words.{if_then_else_, case, lookup}
+use Rattle.text.specs.Words.{if_then_else_, case, str, same, lookup}
 use Rattle.text.specs.Chars.{is-alphanumeric, to-lower}
+use Rattle.html.specs.State.{tags, heading, marked, para, pre, br, ul, ol, li, tr, cell, code, other}
+use Rattle.html.specs.State as state
 use Rattle.html.specs.declared.Skip.{Skip}
 use Rattle.html.specs.declared.Skip.the-variants.{Nothing, Script, Style}
 use Rattle.html.specs.declared.Tag.{Tag}
 use Rattle.html.specs.declared.Tag.the-variants.{Ul, Ol, Skipped, Writes}
 use Rattle.html.specs.declared.Step.the-variants.{Heading, Block, Pre, Break, Item, Row, Cell, Strong, Emphasis, Code, Other}
 
--- one byte of it, and 0 for a byte that ends it
+-- one byte of a name, and 0 for a byte that ends it
 unfoldable pub folded : ℕ → ℕ
 folded b = if is-alphanumeric b then to-lower b else 0
 
@@ -32,30 +34,23 @@ Rows = List (String × Tag)
 unfoldable pub find : Rows → List ℕ → Tag
 find rows n = case (lookup rows n) (Writes Other) (λ t. t)
 
+-- a tag of notes.rs as the code has it
+abbrev pub code-of : state.Tag → Tag
+code-of (heading n) = Writes (Heading n)
+code-of (marked m) = Writes (if same (str "**") (str m) then Strong else Emphasis)
+code-of para = Writes Block
+code-of pre = Writes Pre
+code-of br = Writes Break
+code-of ul = Ul
+code-of ol = Ol
+code-of li = Writes Item
+code-of tr = Writes Row
+code-of cell = Writes Cell
+code-of code = Writes Code
+code-of other = Writes Other
+
 unfoldable pub writing : Rows
-writing =
-    ("h1", Writes (Heading 1)) ∷ ("h2", Writes (Heading 2)) ∷ ("h3", Writes (Heading 3)) ∷ ("h4", Writes (Heading 4))
-    ∷ ("h5", Writes (Heading 5))
-    ∷ ("h6", Writes (Heading 6))
-    ∷ ("p", Writes Block)
-    ∷ ("div", Writes Block)
-    ∷ ("blockquote", Writes Block)
-    ∷ ("table", Writes Block)
-    ∷ ("hr", Writes Block)
-    ∷ ("pre", Writes Pre)
-    ∷ ("br", Writes Break)
-    ∷ ("ul", Ul)
-    ∷ ("ol", Ol)
-    ∷ ("li", Writes Item)
-    ∷ ("tr", Writes Row)
-    ∷ ("td", Writes Cell)
-    ∷ ("th", Writes Cell)
-    ∷ ("strong", Writes Strong)
-    ∷ ("b", Writes Strong)
-    ∷ ("em", Writes Emphasis)
-    ∷ ("i", Writes Emphasis)
-    ∷ ("code", Writes Code)
-    ∷ []
+writing = map (λ (r : String × state.Tag). (r .0, code-of (r .1))) tags
 
 unfoldable pub table : Rows
 table = ("script", Skipped Script) ∷ ("style", Skipped Style) ∷ writing
