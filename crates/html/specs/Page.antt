@@ -98,6 +98,10 @@ loop zero (x ∷ s) c =
 unfoldable pub finish : State → List ℕ
 finish c = take 8000 (trim (reverse (c .out)))
 
+-- what is read of a page
+abbrev pub read-part : List ℕ → List ℕ
+read-part html = cut 1048576 html
+
 -- none: number 4
 unfoldable pub html-to-markdown : List ℕ → Option (List ℕ)
-html-to-markdown html = loop 0 (cut 1048576 html) new >>= λ c. some (finish c)
+html-to-markdown html = loop 0 (read-part html) new >>= λ c. some (finish c)

@@ -41,8 +41,8 @@ pub struct Converter {
     pub len: usize,
     pub depth: usize,
     pub pre: bool,
-    pub space: bool,
     pub skip: Skip,
+    pub space: bool,
 }
 
 // The tags that only write.
@@ -101,8 +101,8 @@ impl Converter {
             len: 0,
             depth: 0,
             pre: false,
-            space: false,
             skip: Skip::Nothing,
+            space: false,
         }
     }
 }

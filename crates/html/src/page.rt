@@ -26,8 +26,8 @@ impl Converter {
             len: self.len,
             depth: self.depth,
             pre: self.pre,
-            space: self.space,
             skip: skip,
+            space: self.space,
         }
     }
 
