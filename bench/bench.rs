@@ -50,7 +50,9 @@ fn measure(name: &str, kind: Kind, input: &[u8], b: &mut Buffers) -> (f64, f64) 
             Kind::Markdown => port::blocks(black_box(input), &mut b.work, &mut b.result),
         };
         let number = black_box(answer).number;
-        assert_eq!(number, 0, "{name} is refused with {number}, so it cannot be timed; take it out, or change it by README.md's table of refusals");
+        if number != 0 {
+            stop(format!("{name} is refused with {number}, so it cannot be timed; take it out, or change it by README.md's table of refusals"));
+        }
     };
     let rust = || {
         let text = std::str::from_utf8(black_box(input)).expect("the port took it, so it is UTF-8; compare/run finds where the two differ");
