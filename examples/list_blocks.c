@@ -12,7 +12,7 @@ static const char *advice(uint32_t number)
 {
     switch (number) {
     case RN_NOT_UTF8:
-        return "the page is not UTF-8; convert it first, for example with iconv";
+        return "the input is not UTF-8; convert it first, for example with iconv";
     case RN_SMALL_WORK:
         return "the work buffer is too short; size it with RN_WORK_FOR_PAGE or RN_WORK_FOR_MARKDOWN";
     case RN_SMALL_RESULT:
@@ -89,16 +89,28 @@ static uint8_t *read_blocks(const uint8_t *markdown, size_t markdown_length, siz
     return records;
 }
 
-/* Control bytes are shown as \xNN, so that a page cannot steer the terminal with them. */
+/* How many bytes of a control character stand at the front of UTF-8: 1 for U+0000 to U+001F and U+007F, 2 for U+0080 to U+009F. */
+static size_t control(const uint8_t *text, size_t length)
+{
+    if (length > 0 && (text[0] < 32 || text[0] == 127))
+        return 1;
+    return length > 1 && text[0] == 0xc2 && text[1] < 0xa0 ? 2 : 0;
+}
+
+/* The bytes of control characters are shown as \xNN, so that a page cannot steer the terminal with them. */
 static void put_part(const uint8_t *records, rn_part part)
 {
-    size_t i;
+    const uint8_t *text = records + part.start;
+    size_t i, hidden = 0;
     for (i = 0; i < part.length; i++) {
-        unsigned c = records[part.start + i];
-        if (c < 32 || c == 127)
-            printf("\\x%02x", c);
-        else
-            putchar((int)c);
+        if (hidden == 0)
+            hidden = control(text + i, part.length - i);
+        if (hidden > 0) {
+            printf("\\x%02x", (unsigned)text[i]);
+            hidden--;
+        } else {
+            putchar((int)text[i]);
+        }
     }
 }
 

@@ -50,16 +50,17 @@ impl Refusal {
     }
 }
 
+/// What the user can do, in the words of list_blocks.c; names in capitals are those of release_notes.h.
 impl fmt::Display for Refusal {
     fn fmt(&self, f: &mut fmt::Formatter) -> fmt::Result {
         f.write_str(match self {
-            Refusal::NotUtf8 => "the input is not UTF-8",
-            Refusal::SmallWork => "the work buffer is too short",
-            Refusal::SmallResult => "the result buffer is under 32,000 bytes",
-            Refusal::TooManyLists => "a list stands inside 64 others",
-            Refusal::TooLong => "the Markdown is over 65,536 bytes",
-            Refusal::RecordsTooLong => "the records do not fit the result buffer",
-            Refusal::NoBlock => "no well-formed block stands here",
+            Refusal::NotUtf8 => "the input is not UTF-8; convert it first, for example with iconv",
+            Refusal::SmallWork => "the work buffer is too short; size it with RN_WORK_FOR_PAGE or RN_WORK_FOR_MARKDOWN",
+            Refusal::SmallResult => "the result buffer is too short; give it RN_RESULT_FOR_PAGE bytes",
+            Refusal::TooManyLists => "a list stands inside 64 others; close lists that were left open, or nest fewer",
+            Refusal::TooLong => "the Markdown is over RN_MARKDOWN_MAX bytes; shorten it",
+            Refusal::RecordsTooLong => "the records do not fit; give the result RN_RECORDS_MAX bytes",
+            Refusal::NoBlock => "no block stands here; walk only what rn_blocks wrote, from 0 and then by next",
         })
     }
 }
@@ -321,7 +322,9 @@ mod tests {
         assert!(blocks(&[b'a'; MARKDOWN_MAX]).is_ok());
         assert_eq!(blocks(&[0xff; MARKDOWN_MAX + 1]), Err(Refusal::TooLong));
         for number in 1..=7 {
-            assert_eq!(Refusal::check(number).unwrap_err() as u32, number);
+            let refusal = Refusal::check(number).unwrap_err();
+            assert_eq!(refusal as u32, number);
+            assert!(include_str!("list_blocks.c").contains(&format!("return \"{refusal}\";")));
         }
     }
 

@@ -32,7 +32,7 @@ enum rn_number {
     RN_TOO_MANY_LISTS = 4,   /* the page opens a list inside 64 open ones */
     RN_TOO_LONG = 5,         /* the Markdown is over RN_MARKDOWN_MAX bytes */
     RN_RECORDS_TOO_LONG = 6, /* the records do not fit the block reader's result: RN_RECORDS_MAX */
-    RN_NO_BLOCK = 7          /* the offset is past the end, or no well-formed block stands there */
+    RN_NO_BLOCK = 7          /* the offset is past the end, or no well-formed block stands there (rn_here_at: no well-formed span) */
 };
 
 /*
@@ -216,7 +216,7 @@ rn_first rn_first_at(const uint8_t *records, size_t records_length, size_t at);
 /*
  * A span by its own offset: that of rn_first_at, and then start + length of the span before. Only `count` of rn_block says how many
  * spans a block has; behind the last one stands the next block.
- *   number              RN_OK or RN_NO_BLOCK: no well-formed span stands there
+ *   number              RN_OK or RN_NO_BLOCK: no well-formed span stands there; none does at the records' end
  *   bold, italic, code  1 or 0 each, in any combination
  *   start, length       the text, a part of the records
  */

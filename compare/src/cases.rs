@@ -42,17 +42,17 @@ pub fn write() {
     for _ in 0..2 {
         out.extend(case(sheets::long(&mut r).as_bytes()));
     }
-    std::io::stdout().write_all(&out).expect("standard output");
+    std::io::stdout().write_all(&out).expect("standard output cannot be written; send it to a file");
 }
 
 /// Frames on standard input: P or M, four length bytes, a page or a Markdown text. Each is answered by four length bytes and the Markdown or the records.
 pub fn answers() {
     let (mut frames, mut out) = (Vec::new(), Vec::new());
-    std::io::stdin().read_to_end(&mut frames).expect("standard input");
+    std::io::stdin().read_to_end(&mut frames).expect("standard input cannot be read; give it the frames of tools/replay-data");
     let mut rest = &frames[..];
     while let [kind, a, b, c, d, texts @ ..] = rest {
         let (text, after) = texts.split_at(u32::from_le_bytes([*a, *b, *c, *d]) as usize);
-        let text = std::str::from_utf8(text).expect("UTF-8");
+        let text = std::str::from_utf8(text).expect("a frame is not UTF-8, which the Rust never takes; leave it out");
         let answer = match kind {
             b'P' => oracle::html_to_markdown(text).into_bytes(),
             _ => oracle::records(&oracle::blocks(text)),
@@ -61,5 +61,5 @@ pub fn answers() {
         out.extend(answer);
         rest = after;
     }
-    std::io::stdout().write_all(&out).expect("standard output");
+    std::io::stdout().write_all(&out).expect("standard output cannot be written; send it to a file");
 }

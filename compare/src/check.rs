@@ -1,6 +1,6 @@
 //! One input to both sides. Each function answers whether they agree; both buffers are filled with a pattern first, so that "unchanged" is seen.
 use crate::oracle::{self, Block, Span};
-use crate::port::{self, BlockAt, HereAt, SpanAt, Tested, Written, END, HEADING, ITEM, PARAGRAPH};
+use crate::port::{self, BlockAt, FirstAt, HereAt, SpanAt, Tested, Written, END, HEADING, ITEM, PARAGRAPH};
 use crate::random::Random;
 
 const FILL: u8 = 0xA5;
@@ -31,7 +31,8 @@ fn bytes_read(page: &str) -> usize {
 /// A page, in buffers that are long enough or one byte short; `full`: a list is opened while 64 are open.
 pub fn page(page: &[u8], full: bool, r: &mut Random) -> bool {
     let text = std::str::from_utf8(page);
-    let need = text.map_or(0, |text| 2 * bytes_read(text) + 16_384);
+    // for bytes that are no text, room for as many or no room at all: the number is 1 either way
+    let need = text.map_or(if r.once_in(2) { 0 } else { 2 * page.len() + 16_384 }, |text| 2 * bytes_read(text) + 16_384);
     let (short_work, short_result) = (r.once_in(16) && need > 0, r.once_in(16));
     let mut work = vec![FILL; need - short_work as usize + if r.once_in(2) && !short_work { 7 } else { 0 }];
     let mut result = vec![FILL; if short_result { 31_999 } else { 32_000 + r.below(2) }];
@@ -77,15 +78,19 @@ fn ends_at(records: &[u8], at: usize, n: usize) -> bool {
     port::span_at(records, at, n) == SpanAt { number: 0, kind: END, bold: 0, italic: 0, code: 0 } && port::text_at(records, at, n).is_empty()
 }
 
+/// A span whose text ends at an offset.
+fn here(span: &Span, end: usize) -> HereAt {
+    HereAt { number: 0, bold: span.bold as u32, italic: span.italic as u32, code: span.code as u32, start: end - span.text.len(), length: span.text.len() }
+}
+
 /// The spans in turn, each by its own offset, up to the next block.
 fn in_turn(records: &[u8], at: usize, spans: &[Span], next: usize) -> bool {
     let first = port::first_at(records, at);
     let mut span_at = first.at;
     let same = spans.iter().all(|span| {
-        let here = port::here_at(records, span_at);
-        span_at = here.start + here.length;
-        let expected = HereAt { number: 0, bold: span.bold as u32, italic: span.italic as u32, code: span.code as u32, start: here.start, length: span.text.len() };
-        here == expected && records[here.start..span_at] == *span.text.as_bytes()
+        let found = port::here_at(records, span_at);
+        span_at = found.start + found.length;
+        span_at >= span.text.len() && found == here(span, span_at) && records[found.start..span_at] == *span.text.as_bytes()
     });
     first.number == 0 && same && span_at == next
 }
@@ -112,18 +117,42 @@ pub fn walk(markdown: &str) -> bool {
         let Some(next) = block_is(&records, at, block) else { return false };
         at = next;
     }
-    let end = BlockAt { number: 0, kind: END, level: 0, depth: 0, count: 0, next: 0 };
-    at == records.len() && port::block_at(&records, at) == end && ends_at(&records, at, 0) && port::block_at(&records, at + 1).number == 7
+    at == records.len() && end_is(&records, at) && no_block(&records, at + 1) && no_span(&records, at + 1)
 }
 
-/// Damaged records at every offset: a block there exactly if a strict reader finds one.
+/// What the calls answer at the records' length, where no span stands either.
+fn end_is(records: &[u8], at: usize) -> bool {
+    let end = BlockAt { number: 0, kind: END, level: 0, depth: 0, count: 0, next: 0 };
+    port::block_at(records, at) == end && port::marker_at(records, at).is_empty() && ends_at(records, at, 0) && port::first_at(records, at) == FirstAt { number: 0, at: 0 } && no_span(records, at)
+}
+
+/// What the calls answer where no block stands.
+fn no_block(records: &[u8], at: usize) -> bool {
+    port::block_at(records, at) == BlockAt { number: 7, kind: 0, level: 0, depth: 0, count: 0, next: 0 }
+        && port::marker_at(records, at).is_empty()
+        && port::span_at(records, at, 0) == SpanAt { number: 7, kind: 0, bold: 0, italic: 0, code: 0 }
+        && port::text_at(records, at, 0).is_empty()
+        && port::first_at(records, at) == FirstAt { number: 7, at: 0 }
+}
+
+/// What the call answers where no span stands.
+fn no_span(records: &[u8], at: usize) -> bool {
+    port::here_at(records, at) == HereAt { number: 7, bold: 0, italic: 0, code: 0, start: 0, length: 0 }
+}
+
+/// Damaged records at every offset and past the end: a block there, and a span, exactly if a strict reader finds one.
 pub fn damaged_records(records: &[u8]) -> bool {
-    (0..records.len()).all(|at| {
-        let found = port::block_at(records, at);
-        match crate::records::block(records, at) {
+    (0..records.len() + 3).all(|at| {
+        let block_same = match crate::records::block(records, at) {
             Some((block, next)) => block_is(records, at, &block) == Some(next),
-            None => found.number == 7 && port::marker_at(records, at).is_empty() && port::text_at(records, at, 0).is_empty() && port::span_at(records, at, 0).number == 7 && port::first_at(records, at).number == 7,
-        }
+            None if at == records.len() => end_is(records, at),
+            None => no_block(records, at),
+        };
+        let span_same = match crate::records::span(records, at) {
+            Some((span, end)) => port::here_at(records, at) == here(&span, end),
+            None => no_span(records, at),
+        };
+        block_same && span_same
     })
 }
 
@@ -146,4 +175,41 @@ pub fn sheet(page: &[u8]) -> bool {
         && markdown == sheet.written.as_bytes()
         && read.number == 0
         && result[..read.length] == oracle::records(&sheet.blocks)
+}
+
+/// Buffers that are made once, for the many short inputs of `character`.
+pub struct Buffers {
+    work: Vec<u8>,
+    result: Vec<u8>,
+}
+
+impl Buffers {
+    pub fn new() -> Self {
+        Buffers { work: vec![FILL; 20_000], result: vec![FILL; 32_000] }
+    }
+    fn markdown(&mut self, page: &str) -> Option<&[u8]> {
+        let answer = port::html_to_markdown(page.as_bytes(), &mut self.work, &mut self.result);
+        (answer.number == 0).then(|| &self.result[..answer.length])
+    }
+    fn records(&mut self, markdown: &str) -> Option<&[u8]> {
+        let answer = port::blocks(markdown.as_bytes(), &mut self.work, &mut self.result);
+        (answer.number == 0).then(|| &self.result[..answer.length])
+    }
+}
+
+/// The sheet test alone, against the second reading of the grammar.
+fn sheet_tested(page: &str) -> bool {
+    let (yes, bytes, characters) = crate::sheet::read(page).map_or((0, 0, 0), |sheet| (1, sheet.written.len(), sheet.written.chars().count()));
+    port::sheet(page.as_bytes()) == Tested { number: 0, yes, bytes, characters }
+}
+
+/// One character wherever its class decides: in a page at a line's start, in a text, as a reference, before a full stop and in a tag's name; in
+/// Markdown around an item and as a marker; in a sheet at a line's start and in a text.
+pub fn character(c: char, buffers: &mut Buffers) -> bool {
+    let page = format!("{c}a{c}b&#{};{c}<a>.<b{c}>d", c as u32);
+    let markdown = format!("{c}- a{c}\n{c}. a");
+    buffers.markdown(&page) == Some(oracle::html_to_markdown(&page).as_bytes())
+        && buffers.records(&markdown) == Some(&oracle::records(&oracle::blocks(&markdown))[..])
+        && sheet_tested(&format!("<p>{c}b</p>"))
+        && sheet_tested(&format!("<p>a{c}b</p>"))
 }

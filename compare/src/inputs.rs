@@ -38,12 +38,26 @@ pub fn random_page(r: &mut Random) -> Vec<u8> {
 /// A page whose output comes near 16,000 bytes or 8,000 characters.
 pub fn long_page(r: &mut Random) -> Vec<u8> {
     let unit = *r.pick(&["a", "é", "€", "\u{1f680}", "*", "a b ", "<b>x</b>"]);
-    let written = unit.replace("<b>", "**").replace("</b>", "**").replace('*', "\\*").len().max(1);
+    let written = unit.replace('*', "\\*").replace("<b>", "**").replace("</b>", "**").len();
     let count = [8_000, 16_000 / unit.len(), 16_000 / written][r.below(3)];
     let mut out = b"<p>".to_vec();
     out.extend(unit.repeat((count + 5 - r.below(10)).max(1)).as_bytes());
     out.extend(b"</p>");
     out.extend(random_page(r));
+    out
+}
+
+/// A page whose characters stand around the 1,048,576 bytes that are read: the k-th starts them 6 bytes before, or up to 5 after. Now and then the
+/// part that is not read is no UTF-8.
+pub fn huge_page(r: &mut Random, k: usize) -> Vec<u8> {
+    let start = 1_048_570 + k % 12;
+    let (before, filler, after) = *r.pick(&[("<!--", b'x', "-->"), ("<!--", b'-', "-->"), ("<b ", b'x', ">"), ("<script>", b'x', "</script>"), ("", b' ', "")]);
+    let mut out = before.as_bytes().to_vec();
+    out.resize(start - after.len(), filler);
+    out.extend(format!("{after}\u{1f680}abcdefgh").as_bytes());
+    if r.once_in(8) {
+        out.push(0xFF);
+    }
     out
 }
 
@@ -53,6 +67,21 @@ pub fn random_markdown(r: &mut Random) -> Vec<u8> {
         out.push_str(*r.pick(&MARKDOWN_PIECES));
     }
     out.into_bytes()
+}
+
+/// Markdown of 65,530 to 65,545 bytes, each length in turn. The depth of some items is over 255, and now and then the greatest that there is.
+pub fn long_markdown(r: &mut Random, k: usize) -> Vec<u8> {
+    let length = 65_530 + k % 16;
+    if r.once_in(8) {
+        return format!("{}- a", " ".repeat(length - 3)).into_bytes();
+    }
+    let (deep, mut out) = (format!("\n{}- ", " ".repeat(1_000)), String::new());
+    while out.len() < length {
+        let piece = if r.once_in(200) { &deep } else { *r.pick(&MARKDOWN_PIECES) };
+        out.push_str(if out.len() + piece.len() <= length { piece } else { "a" });
+    }
+    let out = out.into_bytes();
+    if r.once_in(8) { damaged(r, out) } else { out }
 }
 
 /// A few bytes changed, dropped or put in; often no UTF-8 any more.

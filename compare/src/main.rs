@@ -1,4 +1,5 @@
-//! compare cases, compare answers: what tools/replay-data puts together for crates/replay. compare N [SEED]: N inputs to the port and to the published Rust. Prints how many of each kind were run and differ; ends with status 1 where any does.
+//! compare [N [SEED]]: about N inputs to the port and to the published Rust, and every character to both. Prints how many of each kind were run and
+//! differ; ends with status 1 where any does, with 2 where it was not called so. compare cases, compare answers: what tools/replay-data puts together.
 mod cases;
 mod check;
 mod inputs;
@@ -16,6 +17,11 @@ mod theme {
 }
 
 use random::Random;
+
+/// The least N, so that each kind is run.
+const LEAST: usize = 2_000;
+/// How many huge pages are run, whatever N is: each place of the cut five times.
+const HUGE: usize = 60;
 
 struct Count {
     kind: &'static str,
@@ -43,7 +49,7 @@ fn run(kind: &'static str, n: usize, seed: u64, mut one: impl FnMut(usize, &mut 
     count
 }
 
-/// How many sequences of at most `length` pieces there are, and the k-th of them.
+/// The k-th of all sequences of pieces, the shorter ones first and the empty one before them.
 fn short(pieces: &[&str], k: usize) -> Vec<u8> {
     let (mut k, mut length, mut block) = (k, 0, 1);
     while k >= block {
@@ -76,6 +82,7 @@ fn pages(n: usize, seed: u64) -> Vec<Count> {
         run("random pages", n / 5, seed + 1, |_, r| { let p = inputs::random_page(r); checked_page(p, false, r) }),
         run("damaged pages", n / 16, seed + 2, |_, r| { let p = inputs::random_page(r); let p = inputs::damaged(r, p); checked_page(p, false, r) }),
         run("long pages", n / 400, seed + 3, |_, r| { let p = inputs::long_page(r); checked_page(p, false, r) }),
+        run("huge pages", HUGE, seed + 13, |k, r| { let p = inputs::huge_page(r, k); checked_page(p, false, r) }),
         run("pages of many lists", n / 100, seed + 4, |_, r| { let (p, full) = inputs::many_lists(r); checked_page(p, full, r) }),
     ]
 }
@@ -85,8 +92,10 @@ fn texts(n: usize, seed: u64) -> Vec<Count> {
         run("short Markdown", n / 6, seed + 5, |k, r| checked_markdown(short(&inputs::SHORT_MARKDOWN, k), r)),
         run("random Markdown", n / 6, seed + 6, |_, r| { let m = inputs::random_markdown(r); checked_markdown(m, r) }),
         run("damaged Markdown", n / 16, seed + 7, |_, r| { let m = inputs::random_markdown(r); let m = inputs::damaged(r, m); checked_markdown(m, r) }),
+        run("long Markdown", n / 2000 + 16, seed + 14, |k, r| { let m = inputs::long_markdown(r, k); checked_markdown(m, r) }),
         run("damaged records", n / 50, seed + 8, |_, r| {
-            let blocks = oracle::blocks(&String::from_utf8(inputs::random_markdown(r)).unwrap());
+            let markdown = String::from_utf8(inputs::random_markdown(r)).expect("the pieces of inputs.rs are UTF-8; keep them so");
+            let blocks = oracle::blocks(&markdown);
             let records = inputs::damaged(r, oracle::records(&blocks));
             let same = check::damaged_records(&records);
             (records, same)
@@ -103,15 +112,42 @@ fn sheets(n: usize, seed: u64) -> Vec<Count> {
     ]
 }
 
+/// Every character, the surrogates left out: 1,112,064.
+fn characters() -> Vec<Count> {
+    let mut buffers = check::Buffers::new();
+    let every: Vec<char> = (0..=char::MAX as u32).filter_map(char::from_u32).collect();
+    vec![run("every character", every.len(), 0, |k, _| {
+        let same = check::character(every[k], &mut buffers);
+        (every[k].to_string().into_bytes(), same)
+    })]
+}
+
+fn stop(why: &str) -> ! {
+    eprintln!("compare: {why}\nIt is called as compare/run NOTES_RS [N [SEED]]: about N inputs, {LEAST} at least (10000 where it is left out), by the generator's SEED (1).");
+    std::process::exit(2)
+}
+
+/// The word at a place, as a number; another where there is none.
+fn number(words: &[String], place: usize, otherwise: u64) -> u64 {
+    let Some(word) = words.get(place) else { return otherwise };
+    word.parse().unwrap_or_else(|_| stop(&format!("{word:?} is not a number; write it in digits, as 10000")))
+}
+
 fn main() {
-    match std::env::args().nth(1).as_deref() {
+    let words: Vec<String> = std::env::args().skip(1).collect();
+    match words.first().map(String::as_str) {
         Some("cases") => return cases::write(),
         Some("answers") => return cases::answers(),
         _ => {}
     }
-    let words: Vec<u64> = std::env::args().skip(1).filter_map(|word| word.parse().ok()).collect();
-    let (n, seed) = (*words.first().unwrap_or(&10_000) as usize, *words.get(1).unwrap_or(&1));
-    let counts: Vec<Count> = [pages(n, seed), texts(n, seed), sheets(n, seed)].into_iter().flatten().collect();
+    let (n, seed) = (number(&words, 0, 10_000) as usize, number(&words, 1, 1));
+    if n < LEAST {
+        stop(&format!("N is {n}, with which some kinds would not be run; give more"));
+    }
+    if let Some(word) = words.get(2) {
+        stop(&format!("{word:?} is one word too many; leave it out"));
+    }
+    let counts: Vec<Count> = [pages(n, seed), texts(n, seed), sheets(n, seed), characters()].into_iter().flatten().collect();
     for count in &counts {
         println!("{:22}{:9} run {:6} differ", count.kind, count.run, count.differ);
     }

@@ -62,7 +62,14 @@ fn is_marker(marker: &str) -> bool {
 
 /// The block at an offset and the next offset; none where no well-formed block stands.
 pub(crate) fn block(records: &[u8], at: usize) -> Option<(Block, usize)> {
-    let mut reader = Reader { rest: &records[at..] };
+    let mut reader = Reader { rest: records.get(at..)? };
     let block = reader.block()?;
     Some((block, records.len() - reader.rest.len()))
+}
+
+/// The span at an offset and where its text ends; none where no well-formed span stands.
+pub(crate) fn span(records: &[u8], at: usize) -> Option<(Span, usize)> {
+    let mut reader = Reader { rest: records.get(at..)? };
+    let span = reader.span()?;
+    Some((span, records.len() - reader.rest.len()))
 }

@@ -1,4 +1,4 @@
-// The block reader: the answers are the records of what the Rust's `blocks` reads, made by `tools/replay-data markdown`.
+// The block reader: the answers are the records of what the Rust's `blocks` reads, made by `tools/replay-data NOTES_RS`.
 use markdown::Answer;
 
 pub(crate) fn agrees(input: &[u8], want: usize, answer: &[u8]) -> bool {

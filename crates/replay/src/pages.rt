@@ -1,4 +1,4 @@
-// The converter: the answers are those of the Rust's `html_to_markdown`, made by `tools/replay-data pages`.
+// The converter: the answers are those of the Rust's `html_to_markdown`, made by `tools/replay-data NOTES_RS`.
 use html::Answer;
 
 pub(crate) fn agrees(page: &[u8], want: usize, answer: &[u8]) -> bool {
