@@ -23,21 +23,23 @@ enum Link {
     Nothing,
 }
 
-// Where a search from `from` on has to start, if the mark does not stand from `low` on below `high`.
-fn resume(low: usize, high: usize, from: usize) -> usize
-    ensures { λ r. ⌜ r ≡ resumed low high from ⌝ }
+// What the searches of one line have seen: for `]`, `)` and the backtick, at places 0, 2 and 4, a range in which that mark does not stand.
+// A search starts after its range and notes the new one, so that no byte is searched twice for the same mark.
+// Where a search from `from` on has to start for the mark at place k.
+fn resume(seen: &[usize; 6], k: usize, from: usize) -> usize
+    requires { ⌜ k < 5 ⌝ }
+    ensures { λ r. ⌜ r ≡ resumed (getD (now (seen .entry)) k 0) (getD (now (seen .entry)) (k + 1) 0) from ⌝ }
 {
-    if from < low {
+    if from < seen[k] {
         return from;
     }
+    let high = seen[k + 1];
     if high < from {
         return from;
     }
     high
 }
 
-// What the searches of one line have seen: for `]`, `)` and the backtick, at places 0, 2 and 4, a range in which that mark does not stand.
-// A search starts after its range and notes the new one, so that no byte is searched twice for the same mark.
 // Notes that the mark at place k does not stand from `low` on below `high`.
 fn note(seen: &mut [usize; 6], k: usize, low: usize, high: usize)
     requires { ⌜ k < 5 ⌝ }
@@ -60,7 +62,7 @@ fn find(s: &[u8], from: usize, seen: &mut [usize; 6]) -> Found
     requires { ⌜ Known (now s) (now seen) ⌝ }
     ensures { λ r. ⌜ (r ≡ next-at 96 (now (s .entry)) from) × Known (now (s .entry)) (now (seen .exit)) ⌝ }
 {
-    let mut i = resume(seen[4], seen[5], from);
+    let mut i = resume(seen, 4, from);
     let at = 'tick: loop {
         if s.len() <= i {
             note(seen, 4, from, i);
@@ -81,7 +83,7 @@ fn find_link(s: &[u8], from: usize, seen: &mut [usize; 6]) -> Link
     ensures { λ r. ⌜ (r ≡ link-at (now (s .entry)) from) × Known (now (s .entry)) (now (seen .exit)) ⌝ }
 {
     'link: loop {
-        let mut i = resume(seen[0], seen[1], from);
+        let mut i = resume(seen, 0, from);
         let close = 'close: loop {
             if s.len() <= i {
                 note(seen, 0, from, i);
@@ -99,7 +101,7 @@ fn find_link(s: &[u8], from: usize, seen: &mut [usize; 6]) -> Link
             }
             break 'paren close + 2;
         };
-        let mut j = resume(seen[2], seen[3], target);
+        let mut j = resume(seen, 2, target);
         let end = 'end: loop {
             if s.len() <= j {
                 note(seen, 2, target, j);
