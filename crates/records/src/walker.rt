@@ -220,7 +220,7 @@ pub enum FirstAnswer {
 pub fn first_at(records: &[u8], at: usize) -> FirstAnswer
     ensures { λ r. ⌜ first-values r ≡ first-answer (now (records .entry)) at ⌝ }
 {
-    if at == records.len() {
+    if records.len() == at {
         return FirstAnswer::End;
     }
     let Whole::At {
