@@ -20,14 +20,17 @@ use Rattle.capi.specs.declared.HereAt.{HereAt}
 use Rattle.capi.specs.declared.Part.{Part}
 use Rattle.capi.specs.declared.Tested.{Tested}
 
+abbrev pub written-of : ℕ → ℕ → Written
+written-of number length = record { number = number; length = length }
+
 abbrev pub written-struct : Outcome → Written
-written-struct o = record { number = number o; length = returned o }
+written-struct o = written-of (number o) (returned o)
 
 abbrev pub page-struct : H.Answer → Written
-page-struct a = record { number = answer-number a; length = answer-length a }
+page-struct a = written-of (answer-number a) (answer-length a)
 
 abbrev pub markdown-struct : MA.Answer → Written
-markdown-struct a = record { number = M.answer-number a; length = M.answer-length a }
+markdown-struct a = written-of (M.answer-number a) (M.answer-length a)
 
 abbrev pub or-0 : Option ℕ → ℕ
 or-0 none = 0
@@ -39,11 +42,13 @@ kind (some level) depth = 1
 kind none (some depth) = 3
 kind none none = 2
 
+abbrev pub block-of : ℕ → ℕ → ℕ → ℕ → ℕ → ℕ → BlockAt
+block-of number kind level depth count next = record { number = number; kind = kind; level = level; depth = depth; count = count; next = next }
+
 abbrev pub block-struct : Answer BlockValues → BlockAt
-block-struct at-end = record { number = 0; kind = 0; level = 0; depth = 0; count = 0; next = 0 }
-block-struct (refused n) = record { number = n; kind = 0; level = 0; depth = 0; count = 0; next = 0 }
-block-struct (gives v) =
-    record { number = 0; kind = kind (v .level) (v .depth); level = or-0 (v .level); depth = or-0 (v .depth); count = v .count; next = v .next }
+block-struct at-end = block-of 0 0 0 0 0 0
+block-struct (refused n) = block-of n 0 0 0 0 0
+block-struct (gives v) = block-of 0 (kind (v .level) (v .depth)) (or-0 (v .level)) (or-0 (v .depth)) (v .count) (v .next)
 
 abbrev pub bit : Bool → ℕ
 bit true = 1

@@ -8,7 +8,7 @@ ghost use Rattle.html.specs.Calls.{html-to-markdown-call};
 ghost use Rattle.text.specs.Outcome.{result-after, work-kept};
 ghost use Rattle.markdown.specs.Calls.{blocks-call};
 ghost use Rattle.sheet.specs.Calls.{sheet-call};
-ghost use Rattle.capi.specs.Values.{bit, page-struct, markdown-struct, written-struct, block-struct, span-struct, first-struct, here-struct, part-struct, sheet-struct};
+ghost use Rattle.capi.specs.Values.{bit, written-of, page-struct, markdown-struct, written-struct, block-of, block-struct, span-struct, first-struct, here-struct, part-struct, sheet-struct};
 use records::walker::BlockAnswer;
 use records::walker::FirstAnswer;
 use records::walker::HereAnswer;
@@ -23,30 +23,21 @@ pub struct Written {
     pub length: usize,
 }
 
+fn written(number: u32, length: usize) -> Written
+    ensures { λ r. ⌜ r ≡ written-of number length ⌝ }
+{
+    Written { number, length }
+}
+
 fn page_written(a: html::Answer) -> Written
     ensures { λ r. ⌜ r ≡ page-struct a ⌝ }
 {
     match a {
-        html::Answer::Length(n) => Written {
-            number: 0,
-            length: n,
-        },
-        html::Answer::NotUtf8 => Written {
-            number: 1,
-            length: 0,
-        },
-        html::Answer::SmallWork => Written {
-            number: 2,
-            length: 0,
-        },
-        html::Answer::SmallResult => Written {
-            number: 3,
-            length: 0,
-        },
-        html::Answer::TooManyLists => Written {
-            number: 4,
-            length: 0,
-        },
+        html::Answer::Length(n) => written(0, n),
+        html::Answer::NotUtf8 => written(1, 0),
+        html::Answer::SmallWork => written(2, 0),
+        html::Answer::SmallResult => written(3, 0),
+        html::Answer::TooManyLists => written(4, 0),
     }
 }
 
@@ -64,26 +55,11 @@ fn markdown_written(a: markdown::Answer) -> Written
     ensures { λ r. ⌜ r ≡ markdown-struct a ⌝ }
 {
     match a {
-        markdown::Answer::Length(n) => Written {
-            number: 0,
-            length: n,
-        },
-        markdown::Answer::NotUtf8 => Written {
-            number: 1,
-            length: 0,
-        },
-        markdown::Answer::SmallWork => Written {
-            number: 2,
-            length: 0,
-        },
-        markdown::Answer::TooLong => Written {
-            number: 5,
-            length: 0,
-        },
-        markdown::Answer::SmallResult => Written {
-            number: 6,
-            length: 0,
-        },
+        markdown::Answer::Length(n) => written(0, n),
+        markdown::Answer::NotUtf8 => written(1, 0),
+        markdown::Answer::SmallWork => written(2, 0),
+        markdown::Answer::TooLong => written(5, 0),
+        markdown::Answer::SmallResult => written(6, 0),
     }
 }
 
@@ -153,51 +129,36 @@ pub struct Tested {
     pub characters: usize,
 }
 
+fn block(
+    number: u32,
+    kind: u32,
+    level: usize,
+    depth: usize,
+    count: usize,
+    next: usize,
+) -> BlockAt
+    ensures { λ r. ⌜ r ≡ block-of number kind level depth count next ⌝ }
+{
+    BlockAt {
+        number,
+        kind,
+        level,
+        depth,
+        count,
+        next,
+    }
+}
+
 #[no_mangle]
 pub extern "C" fn rn_block_at(records: &[u8], at: usize) -> BlockAt
     ensures { λ r. ⌜ r ≡ block-struct (block-answer (now (records .entry)) at) ⌝ }
 {
     match records::walker::block_at(records, at) {
-        BlockAnswer::Heading { level, count, next } => BlockAt {
-            number: 0,
-            kind: 1,
-            level,
-            depth: 0,
-            count,
-            next,
-        },
-        BlockAnswer::Paragraph { count, next } => BlockAt {
-            number: 0,
-            kind: 2,
-            level: 0,
-            depth: 0,
-            count,
-            next,
-        },
-        BlockAnswer::Item { depth, count, next } => BlockAt {
-            number: 0,
-            kind: 3,
-            level: 0,
-            depth,
-            count,
-            next,
-        },
-        BlockAnswer::End => BlockAt {
-            number: 0,
-            kind: 0,
-            level: 0,
-            depth: 0,
-            count: 0,
-            next: 0,
-        },
-        BlockAnswer::Bad => BlockAt {
-            number: 7,
-            kind: 0,
-            level: 0,
-            depth: 0,
-            count: 0,
-            next: 0,
-        },
+        BlockAnswer::Heading { level, count, next } => block(0, 1, level, 0, count, next),
+        BlockAnswer::Paragraph { count, next } => block(0, 2, 0, 0, count, next),
+        BlockAnswer::Item { depth, count, next } => block(0, 3, 0, depth, count, next),
+        BlockAnswer::End => block(0, 0, 0, 0, 0, 0),
+        BlockAnswer::Bad => block(7, 0, 0, 0, 0, 0),
     }
 }
 

@@ -14,9 +14,10 @@ use borrow.Author.Tests.{leb-true, leb-false, ltb-true, ltb-false, eqb-true, le-
 use Rattle.text.specs.Utf8.{Scalars, encode, size, chars, is-utf8}
 use Rattle.text.proofs.Laws.{encode-chars}
 use Rattle.records.specs.Blocks.{Span, Kind, Block, item}
-use Rattle.records.specs.Format.{le16, le32, non-empty, encode-text, span-map, encode-span, encode-spans, encode-kind, encode-count, encode-block, kind-bits, bit, is-marker, WfSpan, WfSpans, WfKind, WfBlock}
+use Rattle.records.specs.Format.{le16, le32, non-empty, text-form, span-map, encode-span, encode-spans, encode-kind, encode-count, encode-block, kind-bits, bit, is-marker, WfSpan, WfSpans, WfKind, WfBlock}
 use Rattle.records.specs.Decode.{Bytes, Parse, _▹_, only, u16, u32, part, text-at, span-of, span-at, spans-at, level-at, marker-at, item-at, kind-at, count-at, Head, head-at, block-at, failed, parsed}
 use Rattle.records.proofs.TextMore.{size-encode, utf8-scalars}
+use Rattle.records.proofs.FormatLaws.{text-some}
 
 module _ {A : Type 0} {a : A} {r : List ℕ} where
   pub not-failed : {B : Type 0} → failed ≡ parsed a r → B
@@ -91,15 +92,15 @@ part-chars n s {t} {r} h w =
       left = x .left;
     }
 
-pub text-some : (cs : List ℕ) → 1 ≤ size cs → (encode-text cs ≡ le32 (size cs) ++ encode cs) × (non-empty cs ≡ true)
+has-some : (cs : List ℕ) → 1 ≤ size cs → non-empty cs ≡ true
 unfolding size
-text-some [] h = absurd (omega arith)
-text-some (c ∷ cs) h = (refl, refl)
+has-some [] h = absurd (omega arith)
+has-some (c ∷ cs) h = refl
 
 TextOk : List ℕ → Type 0
-TextOk cs = Scalars cs × (size cs < 2 ^ 32) × (non-empty cs ≡ true)
+TextOk cs = Scalars cs × (size cs < 2 ^ 32) × (1 ≤ size cs)
 
-text-at-inv : (s : List ℕ) {cs r : List ℕ} → text-at s ≡ parsed cs r → Bytes s → Read encode-text TextOk s cs r
+text-at-inv : (s : List ℕ) {cs r : List ℕ} → text-at s ≡ parsed cs r → Bytes s → Read (λ cs. text-form (encode cs)) TextOk s cs r
 unfolding text-at TextOk
 text-at-inv s {cs} {r} h w =
     let (n, q, e₁, h₂) = then-inv (u32 s) _ h in
@@ -113,9 +114,9 @@ text-at-inv s {cs} {r} h w =
     let en : size cs ≡ n = ap size (sym et) ∙ y .good in
     let ln : 1 ≤ n = leb-true 1 n l in
     let small : n < 2 ^ 32 = x .good in
-    let z = text-some cs (omega arith) in
+    let some : 1 ≤ size cs = omega arith in
     let sm : s ≡ le32 (size cs) ++ (encode cs ++ r) = x .same ∙ ap (λ (l : List ℕ). le32 n ++ l) (y .same) ∙ ap (λ (k : ℕ). le32 k ++ (encode (chars t) ++ q′)) (sym en) ∙ ap (λ (l : List ℕ). le32 (size cs) ++ (encode l ++ q′)) et ∙ ap (λ (l : List ℕ). le32 (size cs) ++ (encode cs ++ l)) er in
-    record { same = rw (z .0) sm; good = (subst Scalars et (utf8-scalars t u), omega arith, z .1); left = subst Bytes er (y .left) }
+    record { same = rw (text-some cs some .0) sm; good = (subst Scalars et (utf8-scalars t u), omega arith, some); left = subst Bytes er (y .left) }
 
 pub moved : {A : Type 0} {enc : A → List ℕ} {ok : A → Type 0} {s : List ℕ} {a b : A} {q r : List ℕ} → parsed a q ≡ parsed b r → Read enc ok s a q → Read enc ok s b r
 moved {enc = enc} {ok = ok} {s = s} h x = subst₂ (λ c l. Read enc ok s c l) (cc) (cc) x
@@ -125,7 +126,7 @@ bit-of zero k h = sym (mul-zero k)
 bit-of (suc zero) k h = sym (mul-one k)
 bit-of (suc (suc d)) k h = absurd (omega arith)
 
-map-of : (m : ℕ) (t : List ℕ) → m < 16 → leb 8 m ≡ non-empty t → m ≡ span-map (span-of m t)
+map-of : (m : ℕ) (t : Bool) → m < 16 → leb 8 m ≡ t → m ≡ span-map (eqb (m % 2) 1) (eqb (m / 2 % 2) 1) (eqb (m / 4 % 2) 1) t
 map-of m t h e = rw (bit-of (m % 2) 1 (omega arith), bit-of (m / 2 % 2) 2 (omega arith), bit-of (m / 4 % 2) 4 (omega arith), ← e) (go (leb 8 m) refl)
   where
     half : m / 2 / 2 ≡ m / 4
@@ -141,7 +142,7 @@ unfolding TextOk encode-span size
 span-inv m s true e lo hi h w =
     let l : m < 8 = ltb-true m 8 e in
     moved h (record {
-      same = ap (λ (k : ℕ). k ∷ s) (map-of m [] hi (lt-leb 8 m l));
+      same = ap (λ (k : ℕ). k ∷ s) (map-of m false hi (lt-leb 8 m l));
       good = record { scalars = tt; bounded = lit< tt; shown = eq-eqb (m / 4 % 2) 1 (omega arith) };
       left = w;
     })
@@ -149,10 +150,10 @@ span-inv m s false e lo hi h w =
     let l : 8 ≤ m = ltb-false m 8 e in
     let (t, q, e₁, h₂) = then-inv (text-at s) _ h in
     let x = text-at-inv s e₁ w in
-    let some : non-empty t ≡ true = x .good .2 in
+    let some : non-empty (encode t) ≡ true = text-some t (x .good .2) .1 in
     moved h₂ (record {
-      same = ap (λ (l : List ℕ). m ∷ l) (x .same) ∙ ap (λ (k : ℕ). k ∷ (encode-text t ++ q)) (map-of m t hi (le-leb 8 m l ∙ sym some));
-      good = record { scalars = x .good .0; bounded = x .good .1; shown = rw some };
+      same = ap (λ (l : List ℕ). m ∷ l) (x .same) ∙ ap (λ (k : ℕ). k ∷ (text-form (encode t) ++ q)) (map-of m (non-empty (encode t)) hi (le-leb 8 m l ∙ sym some));
+      good = record { scalars = x .good .0; bounded = x .good .1; shown = rw (has-some t (x .good .2)) };
       left = x .left;
     })
 

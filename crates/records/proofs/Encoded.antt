@@ -10,11 +10,12 @@ use lib.Seq.{take-append-seam, drop-append-seam}
 use lib.Dec.{leb, ltb}
 use borrow.Author.Tests.{le-leb}
 use Rattle.text.specs.Utf8.{Scalars, encode, size}
-use Rattle.text.proofs.Laws.{utf8-size, chars-encode}
+use Rattle.text.proofs.Laws.{chars-encode}
 use Rattle.records.specs.Blocks.{Span, Kind, Block, heading, paragraph, item}
-use Rattle.records.specs.Format.{le16, le32, non-empty, encode-span, encode-spans, encode-kind, encode-count, encode-block, kind-bits, bit, is-marker, WfSpan, WfSpans, WfKind, WfBlock}
+use Rattle.records.specs.Format.{le16, le32, non-empty, span-map, encode-span, encode-spans, encode-kind, encode-count, encode-block, kind-bits, bit, is-marker, WfSpan, WfSpans, WfKind, WfBlock}
 use Rattle.records.specs.Decode.{u16, u32, part, text-at, span-at, spans-at, level-at, marker-at, item-at, kind-at, count-at, head-at, block-at, parsed}
 use Rattle.records.proofs.TextMore.{size-encode, utf8-encode}
+use Rattle.records.proofs.FormatLaws.{size-some, span-some}
 use Rattle.records.proofs.Markers.{marker-scalars}
 
 u16-of : (n : ℕ) (s : List ℕ) → n < 2 ^ 16 → u16 (le16 n ++ s) ≡ parsed n s
@@ -40,18 +41,14 @@ unfolding text-at
 text-at-of cs s w b h =
     rw (u32-of (size cs) (encode cs ++ s) b, le-leb 1 (size cs) h, bytes-of cs s, utf8-encode cs w, chars-encode cs w)
 
-size-some : (c : ℕ) (cs : List ℕ) → 1 ≤ size (c ∷ cs)
-unfolding size
-size-some c cs = let h = utf8-size c in omega arith
-
 -- with text
 module _ (x : ℕ) (t s : List ℕ) (w : Scalars (x ∷ t)) (h : size (x ∷ t) < 2 ^ 32) where
   stands : text-at (le32 (size (x ∷ t)) ++ (encode (x ∷ t) ++ s)) ≡ parsed (x ∷ t) s
   stands = text-at-of (x ∷ t) s w h (size-some x t)
 
   full : (b i c : Bool)
-      → span-at (encode-span (record { text = x ∷ t; bold = b; italic = i; code = c }) ++ s) ≡ parsed (record { text = x ∷ t; bold = b; italic = i; code = c }) s
-  unfolding span-at encode-span
+      → span-at (span-map b i c true ∷ (le32 (size (x ∷ t)) ++ encode (x ∷ t)) ++ s) ≡ parsed (record { text = x ∷ t; bold = b; italic = i; code = c }) s
+  unfolding span-at
   full true true true = rw stands
   full true true false = rw stands
   full true false true = rw stands
@@ -72,7 +69,7 @@ bare false false s = refl
 
 span-at-cases : (b i c : Bool) (t s : List ℕ) → Scalars t → size t < 2 ^ 32 → non-empty t || c ≡ true
     → span-at (encode-span (record { text = t; bold = b; italic = i; code = c }) ++ s) ≡ parsed (record { text = t; bold = b; italic = i; code = c }) s
-span-at-cases b i c (x ∷ t) s w h e = full x t s w h b i c
+span-at-cases b i c (x ∷ t) s w h e = rw (span-some b i c x t) (full x t s w h b i c)
 span-at-cases b i true [] s w h e = bare b i s
 span-at-cases b i false [] s w h e = absurd (false≢true e)
 

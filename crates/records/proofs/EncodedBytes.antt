@@ -5,9 +5,9 @@ use native.Mathlib.Omega.{arith}
 use mathlib.Core.Bool.{Bool, true, false}
 use mathlib.Core.List.{List, [], _∷_, _++_}
 use lib.ListN.{length}
-use Rattle.text.specs.Utf8.{Scalars, encode, size}
+use Rattle.text.specs.Utf8.{encode, size}
 use Rattle.records.specs.Blocks.{Span, Kind, heading, paragraph, item, Block}
-use Rattle.records.specs.Format.{le16, le32, bit, non-empty, encode-text, encode-span, encode-spans, kind-bits, encode-kind, encode-count, encode-block, encode-blocks, WfSpan, WfSpans, WfKind, WfBlock, WfBlocks}
+use Rattle.records.specs.Format.{le16, le32, bit, non-empty, text-form, encode-span, encode-spans, kind-bits, encode-kind, encode-count, encode-block, encode-blocks, WfSpan, WfSpans, WfKind, WfBlock, WfBlocks}
 use Rattle.records.specs.Decode.{Bytes}
 use Rattle.records.proofs.TextMore.{bytes-append, bytes-encode}
 use Rattle.records.proofs.Markers.{marker-scalars, marker-short}
@@ -22,9 +22,9 @@ bit-small : (b : Bool) (v : ℕ) → bit b v ≤ v
 bit-small true v = omega arith
 bit-small false v = omega arith
 
-bytes-text : (cs : List ℕ) → Scalars cs → Bytes (encode-text cs)
+bytes-text : (bs : List ℕ) → Bytes bs → Bytes (text-form bs)
 bytes-text [] w = tt
-bytes-text (c ∷ cs) w = bytes-append (le32 (size (c ∷ cs))) (encode (c ∷ cs)) (bytes-le32 (size (c ∷ cs))) (bytes-encode (c ∷ cs) w)
+bytes-text (b ∷ bs) w = bytes-append (le32 (length (b ∷ bs))) (b ∷ bs) (bytes-le32 (length (b ∷ bs))) w
 
 bytes-span : (x : Span) → WfSpan x → Bytes (encode-span x)
 unfolding encode-span
@@ -32,8 +32,8 @@ bytes-span x w =
     let a = bit-small (x .bold) 1 in
     let b = bit-small (x .italic) 2 in
     let c = bit-small (x .code) 4 in
-    let d = bit-small (non-empty (x .text)) 8 in
-    (omega arith, bytes-text (x .text) (w .scalars))
+    let d = bit-small (non-empty (encode (x .text))) 8 in
+    (omega arith, bytes-text (encode (x .text)) (bytes-encode (x .text) (w .scalars)))
 
 bytes-spans : (xs : List Span) → WfSpans xs → Bytes (encode-spans xs)
 unfolding encode-spans

@@ -7,7 +7,7 @@ use mathlib.Core.Path.{_≡_, refl, ap, _∙_}
 use mathlib.Core.List.{List, [], _∷_}
 use lib.ListN.{length, drop, getD, length-drop}
 use lib.Seq.{drop-cons}
-use Rattle.records.specs.Decode.{u16, u32, failed}
+use Rattle.records.specs.Decode.{u16, u32, failed, parsed}
 use Rattle.records.specs.Readers.{NumberIs}
 use Rattle.records.specs.declared.fields.Number.the-variants.{Value, Bad}
 
@@ -26,14 +26,18 @@ module _ (s : List ℕ) (at : ℕ) where
       ∙ ap (λ (l : List ℕ). getD s at 0 ∷ getD s (suc at) 0 ∷ l) (drop-cons s (suc (suc at)) 0 (omega arith))
       ∙ ap (λ (l : List ℕ). getD s at 0 ∷ getD s (suc at) 0 ∷ getD s (suc (suc at)) 0 ∷ l) (drop-cons s (suc (suc (suc at))) 0 (omega arith)))
 
-  pub u16-is : {a b : ℕ} → at + 2 ≤ length s → a ≡ getD s at 0 → b ≡ getD s (at + 1) 0 → NumberIs (u16 (drop at s)) s (Value (a + 256 * b) (at + 2))
+  pub u16-is : {n : ℕ} → at + 2 ≤ length s → n ≡ getD s at 0 + 256 * getD s (at + 1) 0 → NumberIs (u16 (drop at s)) s (Value n (at + 2))
   unfolding u16
-  u16-is h ea eb = record { read = rw (front2 h, ea, eb); within = h }
+  u16-is h e = record { read = rw (front2 h, e); within = h }
 
-  pub u32-is : {a b c d : ℕ} → at + 4 ≤ length s → a ≡ getD s at 0 → b ≡ getD s (at + 1) 0 → c ≡ getD s (at + 2) 0 → d ≡ getD s (at + 3) 0
-      → NumberIs (u32 (drop at s)) s (Value (a + 256 * b + 65536 * c + 16777216 * d) (at + 4))
+  pub u32-is : {low high : ℕ} → at + 4 ≤ length s → low ≡ getD s at 0 + 256 * getD s (at + 1) 0
+      → high ≡ getD s (at + 2) 0 + 256 * getD s (at + 2 + 1) 0 → NumberIs (u32 (drop at s)) s (Value (low + 65536 * high) (at + 4))
   unfolding u32
-  u32-is h ea eb ec ed = record { read = rw (front4 h, ea, eb, ec, ed); within = h }
+  u32-is {low} {high} h e f =
+      let n : at + 2 + 1 ≡ at + 3 = omega arith in
+      let g : high ≡ getD s (at + 2) 0 + 256 * getD s (at + 3) 0 = f ∙ ap (λ (k : ℕ). getD s (at + 2) 0 + 256 * getD s k 0) n in
+      let v : getD s at 0 + 256 * getD s (at + 1) 0 + 65536 * getD s (at + 2) 0 + 16777216 * getD s (at + 3) 0 ≡ low + 65536 * high = omega arith in
+      record { read = rw (front4 h) (ap (λ (k : ℕ). parsed k (drop (at + 4) s)) v); within = h }
 
 u16-few : (t : List ℕ) → length t < 2 → u16 t ≡ failed
 unfolding u16

@@ -9,7 +9,7 @@ use mathlib.Core.List.{List, [], _∷_}
 use lib.ListN.{length, drop, getD, drop-of-length-le}
 use lib.Dec.{leb, eqb}
 use borrow.Author.Tests.{eqb-true, eq-eqb, ne-eqb, leb-true, le-leb, lt-leb}
-use Rattle.text.specs.Words.{same, str}
+use Rattle.text.specs.Words.{same, str, starts-with}
 use Rattle.text.specs.Chars.{is-digit}
 use Rattle.text.specs.Utf8.{Scalars, utf8, size, chars}
 use Rattle.text.proofs.Tests.{and-true, or-elim, within-true}
@@ -26,30 +26,15 @@ bullet-bytes : (m : List ℕ) → is-bullet (chars m) ≡ same m (226 ∷ 128 �
 unfolding utf8
 bullet-bytes m = same-encode m (str "•") bullet-scalar
 
-and-last : (b : Bool) → b && true ≡ b
-and-last true = refl
-and-last false = refl
-
-bullet-same : (m : List ℕ) → length m ≡ 3 → same m (226 ∷ 128 ∷ 162 ∷ []) ≡ (eqb (getD m 0 0) 226 && (eqb (getD m 1 0) 128 && eqb (getD m 2 0) 162))
-bullet-same [] h = absurd (omega arith)
-bullet-same (a ∷ []) h = absurd (omega arith)
-bullet-same (a ∷ b ∷ []) h = absurd (omega arith)
-bullet-same (a ∷ b ∷ c ∷ []) h = ap (λ (t : Bool). eqb a 226 && (eqb b 128 && t)) (and-last (eqb c 162))
-bullet-same (a ∷ b ∷ c ∷ d ∷ s) h = absurd (omega arith)
-
-bullet-of : (m : List ℕ) → length m ≡ 3 → is-bullet (chars m) ≡ (eqb (getD m 0 0) 226 && (eqb (getD m 1 0) 128 && eqb (getD m 2 0) 162))
-bullet-of m h = bullet-bytes m ∙ bullet-same m h
-
-module _ (m : List ℕ) (h : length m ≡ 3) where
-  pub bullet-first : (getD m 0 0 ≡ 226 → ⊥) → is-bullet (chars m) ≡ false
-  bullet-first n = bullet-of m h ∙ rw (ne-eqb (getD m 0 0) 226 n)
-
-  module _ (e : getD m 0 0 ≡ 226) where
-    pub bullet-second : (getD m 1 0 ≡ 128 → ⊥) → is-bullet (chars m) ≡ false
-    bullet-second n = bullet-of m h ∙ rw (eq-eqb (getD m 0 0) 226 e, ne-eqb (getD m 1 0) 128 n)
-
-    pub bullet-third : getD m 1 0 ≡ 128 → is-bullet (chars m) ≡ eqb (getD m 2 0) 162
-    bullet-third f = bullet-of m h ∙ rw (eq-eqb (getD m 0 0) 226 e, eq-eqb (getD m 1 0) 128 f)
+pub bullet-start : (m : List ℕ) → length m ≡ 3 → is-bullet (chars m) ≡ starts-with (226 ∷ 128 ∷ 162 ∷ []) m
+bullet-start m h = bullet-bytes m ∙ go m h
+  where
+    go : (m : List ℕ) → length m ≡ 3 → same m (226 ∷ 128 ∷ 162 ∷ []) ≡ starts-with (226 ∷ 128 ∷ 162 ∷ []) m
+    go [] h = absurd (omega arith)
+    go (a ∷ []) h = absurd (omega arith)
+    go (a ∷ b ∷ []) h = absurd (omega arith)
+    go (a ∷ b ∷ c ∷ []) h = refl
+    go (a ∷ b ∷ c ∷ d ∷ s) h = absurd (omega arith)
 
 pub bullet-not : (m : List ℕ) → (length m ≡ 3 → ⊥) → is-bullet (chars m) ≡ false
 bullet-not m h = bullet-bytes m ∙ test-iff (same m (226 ∷ 128 ∷ 162 ∷ [])) false (λ e. absurd (h (ap length (same-true m (226 ∷ 128 ∷ 162 ∷ []) e)))) (λ e. absurd (false≢true e))

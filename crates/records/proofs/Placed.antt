@@ -14,12 +14,13 @@ use borrow.Author.Tests.{leb-true}
 use Rattle.text.specs.Utf8.{encode, size, chars, is-utf8}
 use Rattle.text.proofs.Laws.{encode-chars}
 use Rattle.records.specs.Blocks.{Span, Kind, heading, paragraph, item}
-use Rattle.records.specs.Format.{encode-text, encode-span, encode-spans, is-marker, bit}
+use Rattle.records.specs.Format.{text-form, encode-span, encode-spans, is-marker, bit}
 use Rattle.records.specs.Decode.{_▹_, u16, u32, part, text-at, span-of, span-at, spans-at, level-at, marker-at, item-at, kind-at, count-at, parsed}
 use Rattle.records.specs.Answers.{marker-of}
 use Rattle.records.specs.Places.{marker-from}
 use Rattle.records.proofs.TextMore.{size-encode}
-use Rattle.records.proofs.Decoded.{not-failed, only-inv, then-inv, cond-inv, text-some}
+use Rattle.records.proofs.Decoded.{not-failed, only-inv, then-inv, cond-inv}
+use Rattle.records.proofs.FormatLaws.{text-some}
 
 -- r is what is left of s after k bytes
 pub record After (k : ℕ) (s r : List ℕ) : Type 0 where
@@ -87,10 +88,10 @@ part-ends n s {t} {r} h =
     let en : size (chars t) ≡ n = size-encode (chars t) ∙ ap length (encode-chars t ∙ sym et) ∙ length-take-le n s l in
     (en, record { after = record { left = er; fits = l }; has = omega arith; text = rw (en, sub-self n, encode-chars t) et })
 
-text-length : (cs : List ℕ) (n : ℕ) → size cs ≡ n → 1 ≤ n → 4 + n ≡ length (encode-text cs)
+text-length : (cs : List ℕ) (n : ℕ) → size cs ≡ n → 1 ≤ n → 4 + n ≡ length (text-form (encode cs))
 text-length cs n e l = rw (text-some cs (rw e l) .0, length-append, ← size-encode cs, e)
 
-text-ends : (s : List ℕ) {cs r : List ℕ} → text-at s ≡ parsed cs r → Ends (length (encode-text cs)) s cs r
+text-ends : (s : List ℕ) {cs r : List ℕ} → text-at s ≡ parsed cs r → Ends (length (text-form (encode cs))) s cs r
 unfolding text-at
 text-ends s {cs} {r} h =
     let (n, q, e₁, h₂) = then-inv (u32 s) _ h in
@@ -104,7 +105,7 @@ text-ends s {cs} {r} h =
     let ec : size cs ≡ n = ap size (sym et) ∙ en in
     ends-moved (text-length cs n ec l₁) er et (then-ends (u32-after s e₁) z)
 
-one-more : {t u : List ℕ} → t ≡ u → 1 + length (encode-text t) ≡ suc (length (encode-text u))
+one-more : {t u : List ℕ} → t ≡ u → 1 + length (text-form (encode t)) ≡ suc (length (text-form (encode u)))
 one-more e = rw e (omega arith)
 
 module _ (m : ℕ) (s : List ℕ) {x : Span} {r : List ℕ} where
@@ -114,7 +115,7 @@ module _ (m : ℕ) (s : List ℕ) {x : Span} {r : List ℕ} where
   span-case true h =
       let et : [] ≡ x .text = cc in
       let er : s ≡ r = cc in
-      ends-moved (ap (λ (t : List ℕ). suc (length (encode-text t))) et) er et
+      ends-moved (ap (λ (t : List ℕ). suc (length (text-form (encode t)))) et) er et
       (record { after = one-after m s; has = zero-le; text = refl })
   span-case false h =
       let (t, q, e₁, h₁) = then-inv (text-at s) _ h in

@@ -1,6 +1,6 @@
 -- What the span readers' answers follow from. Each law is stated over plain lists and numbers, and answers one return of the code.
 -- Assumes nothing.
-use Prim.Native.Nat.{ℕ, zero, suc, _+_, _-_, _/_, _%_, _<_, _≤_}
+use Prim.Native.Nat.{ℕ, zero, suc, _+_, _-_, _<_, _≤_}
 use native.Mathlib.Omega.{arith}
 use native.Mathlib.Nat.{add-sub-cancel-left, sub-self}
 use native.Mathlib.Numerals.{sub-one}
@@ -9,13 +9,12 @@ use mathlib.Core.Bool.{Bool, true, false}
 use mathlib.Core.List.{List, _∷_}
 use lib.ListN.{length, drop, getD, length-drop, drop-of-length-le}
 use lib.Seq.{drop-drop, length-take-le}
-use lib.Dec.{eqb}
 use borrow.Author.Tests.{le-leb, lt-leb, lt-ltb, le-ltb}
 use Rattle.text.specs.Utf8.{size, chars, is-utf8}
 use Rattle.text.proofs.Laws.{chars-nil, encode-chars}
 use Rattle.records.specs.Blocks.{Span}
 use Rattle.records.specs.Decode.{Parse, _▹_, u32, part, text-at, span-at, spans-at, failed, parsed}
-use Rattle.records.specs.Readers.{NumberIs, number-parse, number-next, between, Within, PartIs, part-placed, SpanIs, span-parse, span-placed, rest}
+use Rattle.records.specs.Readers.{NumberIs, number-parse, number-next, between, Within, PartIs, part-placed, SpanIs, span-with, span-parse, span-placed, rest}
 use Rattle.records.specs.declared.fields.Number.{Number}
 use Rattle.records.specs.declared.fields.Number.the-variants.{Value, Bad}
 use Rattle.records.specs.declared.reader.Part.{Part}
@@ -92,20 +91,18 @@ module _ (s : List ℕ) (at : ℕ) (h : at < length s) where
     span-high l = record { read = rw (front s at h, le-leb 4 (getD s at 0) lo, le-ltb (getD s at 0) 16 l); placed = tt }
 
     module _ (hi : getD s at 0 < 16) where
-      pub span-bare : getD s at 0 < 8
-          → SpanIs (span-at (drop at s)) s (S.At (eqb (getD s at 0 % 2) 1) (eqb (getD s at 0 / 2 % 2) 1) (eqb (getD s at 0 / 4 % 2) 1) (at + 1) (at + 1))
+      pub span-bare : getD s at 0 < 8 → {x : SpanRead} → x ≡ span-with (getD s at 0) (at + 1) (at + 1) → SpanIs (span-at (drop at s)) s x
       unfolding span-at
-      span-bare l = record { read = rw (front s at h, le-leb 4 (getD s at 0) lo, lt-ltb (getD s at 0) 16 hi, lt-ltb (getD s at 0) 8 l, sub-self (at + 1), chars-nil); placed = (omega arith, omega arith) }
+      span-bare l f = rw f (record { read = rw (front s at h, le-leb 4 (getD s at 0) lo, lt-ltb (getD s at 0) 16 hi, lt-ltb (getD s at 0) 8 l, sub-self (at + 1), chars-nil); placed = (omega arith, omega arith) })
 
       module _ (l : 8 ≤ getD s at 0) {r : Part} (w : PartIs (text-at (drop (at + 1) s)) s r) where
         pub span-none : r ≡ P.Bad → SpanIs (span-at (drop at s)) s S.Bad
         unfolding span-at
         span-none e = record { read = rw (front s at h, le-leb 4 (getD s at 0) lo, lt-ltb (getD s at 0) 16 hi, le-ltb (getD s at 0) 8 l, w .read, e); placed = tt }
 
-        pub span-is : {start end : ℕ} → r ≡ P.At start end
-            → SpanIs (span-at (drop at s)) s (S.At (eqb (getD s at 0 % 2) 1) (eqb (getD s at 0 / 2 % 2) 1) (eqb (getD s at 0 / 4 % 2) 1) start end)
+        pub span-is : {start end : ℕ} → r ≡ P.At start end → {x : SpanRead} → x ≡ span-with (getD s at 0) start end → SpanIs (span-at (drop at s)) s x
         unfolding span-at
-        span-is e = record { read = rw (front s at h, le-leb 4 (getD s at 0) lo, lt-ltb (getD s at 0) 16 hi, le-ltb (getD s at 0) 8 l, w .read, e); placed = subst (part-placed s) e (w .placed) }
+        span-is e f = rw f (record { read = rw (front s at h, le-leb 4 (getD s at 0) lo, lt-ltb (getD s at 0) 16 hi, le-ltb (getD s at 0) 8 l, w .read, e); placed = subst (part-placed s) e (w .placed) })
 
 -- several spans: what they are does not change where they end
 rest-of : {A B : Type 0} (p : Parse A) (f : A → B) → rest (p ▹ λ a q. parsed (f a) q) ≡ rest p

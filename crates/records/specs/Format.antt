@@ -28,15 +28,19 @@ non-empty [] = false
 non-empty (x ∷ xs) = true
 
 -- a span: the map byte, then the text's length and bytes unless it is empty
-abbrev pub span-map : Span → ℕ
-span-map s = bit (s .bold) 1 + bit (s .italic) 2 + bit (s .code) 4 + bit (non-empty (s .text)) 8
+abbrev pub span-map : Bool → Bool → Bool → Bool → ℕ
+span-map bold italic code text = bit bold 1 + bit italic 2 + bit code 4 + bit text 8
 
-abbrev pub encode-text : List ℕ → List ℕ
-encode-text [] = []
-encode-text (c ∷ t) = le32 (size (c ∷ t)) ++ encode (c ∷ t)
+abbrev pub text-form : List ℕ → List ℕ
+text-form [] = []
+text-form (b ∷ bs) = le32 (length (b ∷ bs)) ++ (b ∷ bs)
+
+-- by its emphasis and the bytes of its text
+abbrev pub span-form : Bool → Bool → Bool → List ℕ → List ℕ
+span-form bold italic code bytes = span-map bold italic code (non-empty bytes) ∷ text-form bytes
 
 unfoldable pub encode-span : Span → List ℕ
-encode-span s = span-map s ∷ encode-text (s .text)
+encode-span s = span-form (s .bold) (s .italic) (s .code) (encode (s .text))
 
 unfoldable pub encode-spans : List Span → List ℕ
 encode-spans [] = []

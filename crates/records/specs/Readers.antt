@@ -1,9 +1,10 @@
 -- What the inner readers promise: an answer says what the decoder finds at an offset, and where the rest starts.
 -- Assumes nothing.
-use Prim.Native.Nat.{ℕ, _+_, _-_, _≤_}
+use Prim.Native.Nat.{ℕ, _+_, _-_, _/_, _%_, _≤_}
 use mathlib.Core.Path.{_≡_}
 use mathlib.Core.List.{List}
 use lib.ListN.{length, take, drop}
+use lib.Dec.{eqb}
 use Rattle.text.specs.Utf8.{chars}
 use Rattle.records.specs.Blocks.{Span, Kind, heading, paragraph, item}
 use Rattle.records.specs.Decode.{Parse, failed, parsed, Head, spans-at, head-at, block-at}
@@ -71,6 +72,10 @@ span-parse s S.Bad = failed
 abbrev pub span-placed : List ℕ → SpanRead → Type 0
 span-placed s (S.At b i c start end) = Within s start end
 span-placed s S.Bad = Unit {0}
+
+-- the span whose map byte is m
+abbrev pub span-with : ℕ → ℕ → ℕ → SpanRead
+span-with m start end = S.At (eqb (m % 2) 1) (eqb (m / 2 % 2) 1) (eqb (m / 4 % 2) 1) start end
 
 pub record SpanIs (p : Parse Span) (s : List ℕ) (r : SpanRead) : Type 0 where
   pub read : p ≡ span-parse s r

@@ -1,7 +1,7 @@
 // The fields of a record that are not its own structure: integers and markers.
 ghost use mathlib.Core.Path.{_≡_};
-ghost use Prim.Native.Nat.{_<_};
-ghost use lib.ListN.{drop};
+ghost use Prim.Native.Nat.{_+_, _-_, _*_, _<_, _≤_};
+ghost use lib.ListN.{length, drop, getD};
 ghost use Rattle.text.specs.Chars.{is-digit};
 ghost use Rattle.text.specs.Utf8.{chars};
 ghost use Rattle.records.specs.Format.{is-bullet, digits-stop, is-marker};
@@ -21,20 +21,32 @@ pub(crate) fn wide(b: u8) -> usize
     b as usize
 }
 
+// How many bytes stand from an offset on.
+pub(crate) fn left(s: &[u8], at: usize) -> usize
+    ensures { λ r. ⌜ r ≡ length (now (s .entry)) - at ⌝ }
+{
+    if s.len() <= at { 0 } else { s.len() - at }
+}
+
+// The number of two bytes, the lower first.
+fn pair(s: &[u8], at: usize) -> usize
+    requires { ⌜ at + 2 ≤ length (now s) ⌝ }
+    ensures { λ r. ⌜ (r ≡ getD (now (s .entry)) at 0 + 256 * getD (now (s .entry)) (at + 1) 0) × (r < 65536) ⌝ }
+{
+    let low = wide(s[at]);
+    let high = wide(s[at + 1]);
+    low + 256 * high
+}
+
 // Two bytes, the lower first.
 pub(crate) fn u16_at(s: &[u8], at: usize) -> Number
     ensures { λ r. ⌜ NumberIs (u16 (drop at (now (s .entry)))) (now (s .entry)) r ⌝ }
 {
-    if s.len() <= at {
+    if left(s, at) < 2 {
         return Number::Bad;
     }
-    if s.len() - at < 2 {
-        return Number::Bad;
-    }
-    let a = wide(s[at]);
-    let b = wide(s[at + 1]);
     Number::Value {
-        value: a + 256 * b,
+        value: pair(s, at),
         next: at + 2,
     }
 }
@@ -43,18 +55,13 @@ pub(crate) fn u16_at(s: &[u8], at: usize) -> Number
 pub(crate) fn u32_at(s: &[u8], at: usize) -> Number
     ensures { λ r. ⌜ NumberIs (u32 (drop at (now (s .entry)))) (now (s .entry)) r ⌝ }
 {
-    if s.len() <= at {
+    if left(s, at) < 4 {
         return Number::Bad;
     }
-    if s.len() - at < 4 {
-        return Number::Bad;
-    }
-    let a = wide(s[at]);
-    let b = wide(s[at + 1]);
-    let c = wide(s[at + 2]);
-    let d = wide(s[at + 3]);
+    let low = pair(s, at);
+    let high = pair(s, at + 2);
     Number::Value {
-        value: a + 256 * b + 65536 * c + 16777216 * d,
+        value: low + 65536 * high,
         next: at + 4,
     }
 }
@@ -63,14 +70,10 @@ pub(crate) fn u32_at(s: &[u8], at: usize) -> Number
 fn is_bullet(m: &[u8]) -> bool
     ensures { λ r. ⌜ r ≡ is-bullet (chars (now (m .entry))) ⌝ }
 {
-    if m.len() == 3 {
-        if m[0] == 226 {
-            if m[1] == 128 {
-                return m[2] == 162;
-            }
-        }
+    if m.len() != 3 {
+        return false;
     }
-    false
+    text::starts_with(m, 0, b"\xE2\x80\xA2")
 }
 
 fn is_digit(b: u8) -> bool

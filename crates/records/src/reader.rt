@@ -1,8 +1,9 @@
 // Reading a block of lent bytes. Each reader answers what it found at an offset, and the offset after it.
+ghost use mathlib.Core.Path.{_≡_};
 ghost use Prim.Native.Nat.{_≤_};
 ghost use lib.ListN.{length, drop};
 ghost use Rattle.records.specs.Decode.{text-at, span-at, spans-at, level-at, marker-at, item-at, kind-at, count-at};
-ghost use Rattle.records.specs.Readers.{NumberIs, PartIs, SpanIs, EndIs, KindIs, HeadIs, WholeIs};
+ghost use Rattle.records.specs.Readers.{NumberIs, PartIs, SpanIs, span-with, EndIs, KindIs, HeadIs, WholeIs};
 use crate::fields::Number;
 use crate::fields::is_marker;
 use crate::fields::u16_at;
@@ -48,6 +49,19 @@ pub(crate) enum SpanRead {
     Bad,
 }
 
+// The span whose map byte is m, with its text's place.
+fn span_of(m: u8, start: usize, end: usize) -> SpanRead
+    ensures { λ r. ⌜ r ≡ span-with m start end ⌝ }
+{
+    SpanRead::At {
+        bold: m % 2 == 1,
+        italic: m / 2 % 2 == 1,
+        code: m / 4 % 2 == 1,
+        start,
+        end,
+    }
+}
+
 pub(crate) fn span_read(s: &[u8], at: usize) -> SpanRead
     ensures { λ r. ⌜ SpanIs (span-at (drop at (now (s .entry)))) (now (s .entry)) r ⌝ }
 {
@@ -61,28 +75,14 @@ pub(crate) fn span_read(s: &[u8], at: usize) -> SpanRead
     if 16 <= m {
         return SpanRead::Bad;
     }
-    let bold = m % 2 == 1;
-    let italic = m / 2 % 2 == 1;
-    let code = m / 4 % 2 == 1;
+    let from = at + 1;
     if m < 8 {
-        return SpanRead::At {
-            bold,
-            italic,
-            code,
-            start: at + 1,
-            end: at + 1,
-        };
+        return span_of(m, from, from);
     }
-    let Part::At { start, end } = text_read(s, at + 1) else {
+    let Part::At { start, end } = text_read(s, from) else {
         return SpanRead::Bad;
     };
-    SpanRead::At {
-        bold,
-        italic,
-        code,
-        start,
-        end,
-    }
+    span_of(m, start, end)
 }
 
 // Where n spans end.

@@ -217,10 +217,10 @@ pub enum FirstAnswer {
     Bad,
 }
 
-pub fn first_at(records: &[u8], block: usize) -> FirstAnswer
-    ensures { λ r. ⌜ first-values r ≡ first-answer (now (records .entry)) block ⌝ }
+pub fn first_at(records: &[u8], at: usize) -> FirstAnswer
+    ensures { λ r. ⌜ first-values r ≡ first-answer (now (records .entry)) at ⌝ }
 {
-    if block == records.len() {
+    if records.len() == at {
         return FirstAnswer::End;
     }
     let Whole::At {
@@ -228,7 +228,7 @@ pub fn first_at(records: &[u8], block: usize) -> FirstAnswer
         count: _,
         first,
         next: _,
-    } = whole_at(records, block)
+    } = whole_at(records, at)
     else {
         return FirstAnswer::Bad;
     };

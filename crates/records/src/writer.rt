@@ -2,10 +2,10 @@
 // rest is not, so a writer needs no case for a full buffer and sees at its end whether all of it fitted.
 ghost use mathlib.Core.Path.{_≡_};
 ghost use mathlib.Core.List.{[], _∷_};
-ghost use Prim.Native.Nat.{_+_, _≤_};
+ghost use Prim.Native.Nat.{_≤_};
 ghost use lib.ListN.{length, replicate};
 ghost use lib.Seq.{sets};
-ghost use Rattle.records.specs.Format.{le16, le32, bit};
+ghost use Rattle.records.specs.Format.{le16, le32, bit, span-map};
 
 // One byte.
 pub fn put(out: &mut [u8], at: usize, b: u8)
@@ -75,7 +75,7 @@ fn bit_of(b: bool, v: u8) -> u8
 
 // A span's map byte; `text` says whether the span has any.
 pub fn span_map(bold: bool, italic: bool, code: bool, text: bool) -> u8
-    ensures { λ r. ⌜ r ≡ bit bold 1 + bit italic 2 + bit code 4 + bit text 8 ⌝ }
+    ensures { λ r. ⌜ r ≡ span-map bold italic code text ⌝ }
 {
     bit_of(bold, 1) + bit_of(italic, 2) + bit_of(code, 4) + bit_of(text, 8)
 }

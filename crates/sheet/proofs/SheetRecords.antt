@@ -7,14 +7,13 @@ use mathlib.Core.Bool.{true}
 use mathlib.Core.List.{List, [], _∷_, _++_, map}
 use lib.ListN.{length, length-append}
 use Rattle.text.specs.Words.{str}
-use Rattle.text.specs.Utf8.{utf8, size}
+use Rattle.text.specs.Utf8.{utf8, encode, size}
 use Rattle.text.specs.Decimal.{decimal}
 use Rattle.text.proofs.Laws.{size-append, size-encode}
 use Rattle.text.proofs.Tests.{and-true}
 use Rattle.records.specs.Blocks as B
 use Rattle.records.specs.Format.{encode-span, encode-spans, encode-kind, encode-count, encode-block, encode-blocks}
-use Rattle.records.proofs.FormatLaws.{blocks-append}
-use Rattle.spans.proofs.Bounds.{text-long}
+use Rattle.records.proofs.FormatLaws.{blocks-append, form-long}
 use Rattle.markdown.proofs.StateLaws.{count-small}
 use Rattle.sheet.specs.Tree.{Kind, Run, run, Block}
 use Rattle.sheet.specs.Grammar.{fits, IsPage}
@@ -32,7 +31,7 @@ use Rattle.sheet.proofs.SheetWf.{span-text}
 -- ---- spans
 span-long : (k : Kind) (t : List ℕ) → length (encode-span (span (run k t))) ≤ 5 + size t
 unfolding encode-span
-span-long k t = rw (span-text k t) (omega (arith, text-long t))
+span-long k t = rw (span-text k t) (omega (arith, form-long (encode t), size-encode t))
 
 spans-long : (l : List Run) → all-fit l ≡ true → length (encode-spans (map span l)) ≤ 6 * size (written-runs l)
 unfolding encode-spans all-fit written-runs

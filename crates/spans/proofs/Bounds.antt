@@ -6,12 +6,13 @@ use native.Mathlib.Omega.{arith}
 use mathlib.Core.Bool.{Bool}
 use mathlib.Core.List.{List, [], _∷_}
 use lib.ListN.{length, take, length-append, length-take}
-use Rattle.text.specs.Utf8.{utf8, size}
+use Rattle.text.specs.Utf8.{utf8, encode, size}
 use Rattle.text.proofs.Laws.{utf8-size, size-encode}
 use Rattle.records.specs.Blocks.{Span}
-use Rattle.records.specs.Format.{encode-text, encode-span, encode-spans}
+use Rattle.records.specs.Format.{text-form, encode-span, encode-spans}
+use Rattle.records.proofs.FormatLaws.{form-long}
 use Rattle.spans.specs.Spans.{Walk, step, spans}
-use Rattle.spans.specs.Turn.{Turn, turned, text-form, records-of}
+use Rattle.spans.specs.Turn.{Turn, turned, records-of}
 use Rattle.spans.proofs.Turns.{weigh, texts, spans-fits, turn-fits}
 
 -- ---- bytes: each weighs 1
@@ -26,14 +27,10 @@ weigh-one (c ∷ s) = omega (arith, weigh-one s)
 some-one : (c : ℕ) → 1 ≤ one c
 some-one c = omega arith
 
-form-long : (t : List ℕ) → length (text-form t) ≤ 4 + weigh one t
-form-long [] = omega arith
-form-long (c ∷ t) = omega (arith, weigh-one t)
-
 rec-long : (b i : Bool) (ss : List Span) → length (records-of b i ss) ≤ 5 * length ss + texts one ss
 unfolding records-of
 rec-long b i [] = omega arith
-rec-long b i (s ∷ ss) = omega (arith, rec-long b i ss, length-append (text-form (s .text)) (records-of b i ss), form-long (s .text))
+rec-long b i (s ∷ ss) = omega (arith, rec-long b i ss, length-append (text-form (s .text)) (records-of b i ss), form-long (s .text), weigh-one (s .text))
 
 pub turn-within : (w : Walk) (c : ℕ) (s : List ℕ) → turned spans w s (step w c s) .more ≤ length s
 turn-within w c s = turn-fits one some-one w c s .within
@@ -72,15 +69,11 @@ weigh-bytes (c ∷ s) = ap (λ (n : ℕ). length (utf8 c) + n) (weigh-bytes s)
 some-bytes : (c : ℕ) → 1 ≤ bytes c
 some-bytes c = utf8-size c .0
 
-pub text-long : (t : List ℕ) → length (encode-text t) ≤ 4 + size t
-text-long [] = omega arith
-text-long (c ∷ t) = omega (arith, size-encode (c ∷ t))
-
 spans-long : (ss : List Span) → length (encode-spans ss) ≤ 5 * length ss + texts bytes ss
 unfolding encode-spans encode-span
 spans-long [] = omega arith
 spans-long (s ∷ ss) =
-    omega (arith, spans-long ss, length-append (encode-text (s .text)) (encode-spans ss), text-long (s .text), weigh-bytes (s .text))
+    omega (arith, spans-long ss, length-append (text-form (encode (s .text))) (encode-spans ss), form-long (encode (s .text)), size-encode (s .text), weigh-bytes (s .text))
 
 -- the texts of a line's spans are no longer than the line, its records at most six times, and it has few spans
 pub spans-texts : (cs : List ℕ) → texts bytes (spans cs) ≤ size cs

@@ -6,37 +6,20 @@ use native.Mathlib.Nat.{add-zero}
 use native.Mathlib.Omega.{arith}
 use mathlib.Core.Bool.{Bool, true, false, _&&_, _||_}
 use mathlib.Core.List.{List, [], _∷_, _++_, map}
-use lib.ListN.{length, length-append, length-map}
+use lib.ListN.{length, length-map}
 use lib.Seq.{sets}
 use lib.Dec.{leb}
 use borrow.Author.Tests.{le-leb, lt-leb, leb-true}
-use Rattle.text.specs.Utf8.{utf8, encode, chars, size}
+use Rattle.text.specs.Utf8.{encode, chars}
 use Rattle.text.proofs.Tests.{and-false, and-true, on}
-use Rattle.text.proofs.Laws.{utf8-size, size-encode, size-chars}
+use Rattle.text.proofs.Laws.{size-chars}
 use Rattle.records.specs.Blocks.{Span}
-use Rattle.records.specs.Format.{le32, non-empty, encode-text, encode-span, encode-spans}
+use Rattle.records.specs.Format.{span-form, encode-span, encode-spans}
 use Rattle.spans.specs.Spans.{spans}
 use Rattle.spans.specs.Line.{line-spans}
-use Rattle.spans.specs.Turn.{map-byte, text-form, record-of, records-of}
+use Rattle.spans.specs.Turn.{record-of, records-of}
 use Rattle.spans.proofs.Bounds.{spans-few}
 use Rattle.spans.proofs.Bytes.{as-bytes, spans-bytes}
-
--- a text and its bytes have the same form
-text-same : (t : List ℕ) → text-form (encode t) ≡ encode-text t
-text-same [] = refl
-text-same (c ∷ t) = go (encode (c ∷ t)) refl
-  where
-    go : (l : List ℕ) → encode (c ∷ t) ≡ l → text-form l ≡ le32 (size (c ∷ t)) ++ encode (c ∷ t)
-    go [] e = absurd (omega (arith, ap length e, length-append (utf8 c) (encode t), utf8-size c .0))
-    go (x ∷ l) e = ap₂ (λ (n : ℕ) (z : List ℕ). le32 n ++ z) (ap length (sym e) ∙ size-encode (c ∷ t)) (sym e)
-
-some-same : (t : List ℕ) → non-empty (encode t) ≡ non-empty t
-some-same [] = refl
-some-same (c ∷ t) = go (encode (c ∷ t)) refl
-  where
-    go : (l : List ℕ) → encode (c ∷ t) ≡ l → non-empty l ≡ true
-    go [] e = absurd (omega (arith, ap length e, length-append (utf8 c) (encode t), utf8-size c .0))
-    go (x ∷ l) e = refl
 
 or-false : (b : Bool) → b || false ≡ b
 or-false true = refl
@@ -44,9 +27,7 @@ or-false false = refl
 
 record-same : (s : Span) → record-of false false (as-bytes s) ≡ encode-span s
 unfolding encode-span
-record-same s =
-    ap₂ (λ (n : Bool) (l : List ℕ). map-byte (s .bold || false) (s .italic || false) (s .code) n ∷ l) (some-same (s .text)) (text-same (s .text))
-    ∙ ap₂ (λ (b i : Bool). map-byte b i (s .code) (non-empty (s .text)) ∷ encode-text (s .text)) (or-false (s .bold)) (or-false (s .italic))
+record-same s = ap₂ (λ (b i : Bool). span-form b i (s .code) (encode (s .text))) (or-false (s .bold)) (or-false (s .italic))
 
 records-same : (ss : List Span) → records-of false false (map as-bytes ss) ≡ encode-spans ss
 unfolding records-of encode-spans

@@ -10,9 +10,9 @@ use mathlib.Core.List.{List, [], _∷_, _++_, reverse, reverse-cons, append-nil,
 use lib.ListN.{length, take, drop, getD, set, length-append, length-reverse}
 use lib.Seq.{sets}
 use Rattle.records.specs.Blocks.{Span}
-use Rattle.records.specs.Format.{le32}
+use Rattle.records.specs.Format.{le32, span-map}
 use Rattle.spans.specs.Spans.{at, span, flush}
-use Rattle.spans.specs.Turn.{Turn, turn, map-byte, record-of, records-of}
+use Rattle.spans.specs.Turn.{Turn, turn, record-of, records-of}
 use Rattle.spans.specs.State.{head, pend, moved-to, push-of, flush-by, flush-of, code-span, code-of, link-by, link-head, walk-of, turn-at, Made}
 use Rattle.spans.specs.declared.State.{State}
 use Rattle.spans.specs.declared.Written.{Written}
@@ -50,16 +50,16 @@ push-made B I w out text out′ c more used u len e = record {
 
 -- the record of a span whose text is not empty
 pub full-form : (b i : Bool) (s : Span) (k : ℕ) → length (s .text) ≡ suc k
-    → record-of b i s ≡ map-byte (s .bold || b) (s .italic || i) (s .code) true ∷ (le32 (suc k) ++ s .text)
+    → record-of b i s ≡ span-map (s .bold || b) (s .italic || i) (s .code) true ∷ (le32 (suc k) ++ s .text)
 full-form b i s k = go (s .text)
   where
-    go : (t : List ℕ) → length t ≡ suc k → record-of b i (record { text = t; bold = s .bold; italic = s .italic; code = s .code }) ≡ map-byte (s .bold || b) (s .italic || i) (s .code) true ∷ (le32 (suc k) ++ t)
+    go : (t : List ℕ) → length t ≡ suc k → record-of b i (record { text = t; bold = s .bold; italic = s .italic; code = s .code }) ≡ span-map (s .bold || b) (s .italic || i) (s .code) true ∷ (le32 (suc k) ++ t)
     go [] e = absurd (omega arith)
-    go (c ∷ t) e = ap (λ (n : ℕ). map-byte (s .bold || b) (s .italic || i) (s .code) true ∷ (le32 n ++ (c ∷ t))) e
+    go (c ∷ t) e = ap (λ (n : ℕ). span-map (s .bold || b) (s .italic || i) (s .code) true ∷ (le32 n ++ (c ∷ t))) e
 
 -- the map byte of pending text
 abbrev pub map-of : Bool → Bool → State → ℕ
-map-of B I w = map-byte (w .bold || B) (w .italic || I) false true
+map-of B I w = span-map (w .bold || B) (w .italic || I) false true
 
 -- the record of pending text: its head, and the text
 pub flush-form : (B I : Bool) (w : State) (text : List ℕ) → records-of B I (flush (walk-of w text)) ≡ head (map-of B I w) (length text) ++ reverse text
@@ -177,12 +177,12 @@ flush-bound w f e = omega (arith, flush-few (w .len) w refl, ap (λ (z : State).
 -- ---- a span of code, stored in one run or two
 
 module _ (B I : Bool) (w : State) (out out′ : List ℕ) (m : ℕ) where
-  pub code-empty : (t : List ℕ) → length t ≡ 0 → m ≡ map-byte (w .bold || B) (w .italic || I) true false → out′ ≡ set out (w .at) m
+  pub code-empty : (t : List ℕ) → length t ≡ 0 → m ≡ span-map (w .bold || B) (w .italic || I) true false → out′ ≡ set out (w .at) m
       → (w .at + 1 ≡ w .at + length (record-of B I (code-span w t))) × (out′ ≡ sets out (w .at) (record-of B I (code-span w t)))
   code-empty [] e f g = (refl, g ∙ ap (set out (w .at)) f)
   code-empty (c ∷ t) e f g = absurd (omega arith)
 
-  pub code-some : (t out₁ : List ℕ) → (length t ≡ 0 → ⊥) → m ≡ map-byte (w .bold || B) (w .italic || I) true true → out₁ ≡ sets out (w .at) (m ∷ le32 (length t))
+  pub code-some : (t out₁ : List ℕ) → (length t ≡ 0 → ⊥) → m ≡ span-map (w .bold || B) (w .italic || I) true true → out₁ ≡ sets out (w .at) (m ∷ le32 (length t))
       → out′ ≡ sets out₁ (w .at + 5) t
       → (w .at + 5 + length t ≡ w .at + length (record-of B I (code-span w t))) × (out′ ≡ sets out (w .at) (record-of B I (code-span w t)))
   code-some [] out₁ ne f g h = absurd (ne refl)

@@ -7,9 +7,9 @@ use mathlib.Core.Bool.{Bool, true, false, _||_}
 use mathlib.Core.List.{List, [], _∷_, _++_, map, append-assoc, append-nil}
 use lib.ListN.{length, length-append}
 use Rattle.records.specs.Blocks.{Span}
-use Rattle.records.specs.Format.{non-empty}
+use Rattle.records.specs.Format.{text-form, span-form}
 use Rattle.spans.specs.Spans.{Walk, carry}
-use Rattle.spans.specs.Turn.{map-byte, text-form, record-of, records-of}
+use Rattle.spans.specs.Turn.{record-of, records-of}
 
 pub rec-append : (b i : Bool) (xs ys : List Span) → records-of b i (xs ++ ys) ≡ records-of b i xs ++ records-of b i ys
 unfolding records-of
@@ -25,7 +25,7 @@ pub rec-carry : (b i : Bool) (w : Walk) (xs : List Span) → records-of b i (map
 unfolding records-of
 rec-carry b i w [] = refl
 rec-carry b i w (s ∷ xs) =
-    ap₂ (λ (x y : Bool). (map-byte x y (s .code) (non-empty (s .text)) ∷ text-form (s .text)) ++ records-of b i (map (carry w) xs))
+    ap₂ (λ (x y : Bool). (span-form x y (s .code) (s .text)) ++ records-of b i (map (carry w) xs))
     (or-assoc (s .bold) (w .bold) b) (or-assoc (s .italic) (w .italic) i)
     ∙ ap (λ (l : List ℕ). record-of (w .bold || b) (w .italic || i) s ++ l) (rec-carry b i w xs)
 

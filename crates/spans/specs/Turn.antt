@@ -1,12 +1,12 @@
 -- One turn of the loop of `spans` as data, its label read; and the record of a span whose text is bytes. The code reads bytes: every mark is
 -- ASCII, so that the spans of a line's bytes are those of its characters (proofs/Bytes.antt).
 -- Assumes nothing.
-use Prim.Native.Nat.{ℕ, _+_}
+use Prim.Native.Nat.{ℕ}
 use mathlib.Core.Bool.{Bool, _||_}
 use mathlib.Core.List.{List, [], _∷_, _++_, map}
-use lib.ListN.{length, take}
+use lib.ListN.{take}
 use Rattle.records.specs.Blocks.{Span}
-use Rattle.records.specs.Format.{le32, bit, non-empty}
+use Rattle.records.specs.Format.{span-form}
 use Rattle.spans.specs.Spans.{Walk, Step, made, label, flush, cleared, carry}
 
 -- the spans that it ends, what holds after it, and how many characters it took beyond the first
@@ -27,17 +27,9 @@ unfoldable pub turned : (List ℕ → List Span) → Walk → List ℕ → Step 
 turned inner w s (made out v n) = turn out v n
 turned inner w s (label close n) = linked w (map (carry w) (inner (take close s))) n
 
--- a map byte
-abbrev pub map-byte : Bool → Bool → Bool → Bool → ℕ
-map-byte b i c t = bit b 1 + bit i 2 + bit c 4 + bit t 8
-
-abbrev pub text-form : List ℕ → List ℕ
-text-form [] = []
-text-form (c ∷ t) = le32 (length (c ∷ t)) ++ (c ∷ t)
-
--- a span's record, where b and i stand around it
+-- the record of a span whose text is bytes, where b and i stand around it
 abbrev pub record-of : Bool → Bool → Span → List ℕ
-record-of b i s = map-byte (s .bold || b) (s .italic || i) (s .code) (non-empty (s .text)) ∷ text-form (s .text)
+record-of b i s = span-form (s .bold || b) (s .italic || i) (s .code) (s .text)
 
 unfoldable pub records-of : Bool → Bool → List Span → List ℕ
 records-of b i [] = []

@@ -1,19 +1,19 @@
 // The spans of a line: bold, italic, code, links and images, read from the line's bytes and written as records.
 ghost use mathlib.Core.Path.{_≡_};
-ghost use mathlib.Core.List.{_∷_};
 ghost use Prim.Native.Nat.{_+_, _*_, _^_, _-_, _≤_, _<_};
 ghost use mathlib.Core.Bool.{Bool, true, false, _||_};
 ghost use lib.ListN.{length, set, getD};
 ghost use lib.Seq.{sets};
 ghost use lib.Dec.{eqb};
-ghost use Rattle.records.specs.Format.{le32, bit, encode-spans};
+ghost use Rattle.records.specs.Format.{span-map, encode-spans};
 ghost use Rattle.spans.specs.Spans.{spans};
 ghost use Rattle.spans.specs.Line.{line-spans};
-ghost use Rattle.spans.specs.Turn.{map-byte, record-of, records-of};
+ghost use Rattle.spans.specs.Turn.{record-of, records-of};
 ghost use Rattle.spans.specs.State.{next-at, link-at, Known, resumed, head, moved-to, push-of, flush-of, code-span, code-of, pend, link-to, link-head, Ready, Does};
 use records::writer::put;
 use records::writer::put_bytes;
-use records::writer::put_u32;
+use records::writer::put_head;
+use records::writer::span_map;
 use text::Found;
 use text::byte;
 
@@ -23,21 +23,23 @@ enum Link {
     Nothing,
 }
 
-// Where a search from `from` on has to start, if the mark does not stand from `low` on below `high`.
-fn resume(low: usize, high: usize, from: usize) -> usize
-    ensures { λ r. ⌜ r ≡ resumed low high from ⌝ }
+// What the searches of one line have seen: for `]`, `)` and the backtick, at places 0, 2 and 4, a range in which that mark does not stand.
+// A search starts after its range and notes the new one, so that no byte is searched twice for the same mark.
+// Where a search from `from` on has to start for the mark at place k.
+fn resume(seen: &[usize; 6], k: usize, from: usize) -> usize
+    requires { ⌜ k < 5 ⌝ }
+    ensures { λ r. ⌜ r ≡ resumed (getD (now (seen .entry)) k 0) (getD (now (seen .entry)) (k + 1) 0) from ⌝ }
 {
-    if from < low {
+    if from < seen[k] {
         return from;
     }
+    let high = seen[k + 1];
     if high < from {
         return from;
     }
     high
 }
 
-// What the searches of one line have seen: for `]`, `)` and the backtick, at places 0, 2 and 4, a range in which that mark does not stand.
-// A search starts after its range and notes the new one, so that no byte is searched twice for the same mark.
 // Notes that the mark at place k does not stand from `low` on below `high`.
 fn note(seen: &mut [usize; 6], k: usize, low: usize, high: usize)
     requires { ⌜ k < 5 ⌝ }
@@ -60,7 +62,7 @@ fn find(s: &[u8], from: usize, seen: &mut [usize; 6]) -> Found
     requires { ⌜ Known (now s) (now seen) ⌝ }
     ensures { λ r. ⌜ (r ≡ next-at 96 (now (s .entry)) from) × Known (now (s .entry)) (now (seen .exit)) ⌝ }
 {
-    let mut i = resume(seen[4], seen[5], from);
+    let mut i = resume(seen, 4, from);
     let at = 'tick: loop {
         if s.len() <= i {
             note(seen, 4, from, i);
@@ -81,7 +83,7 @@ fn find_link(s: &[u8], from: usize, seen: &mut [usize; 6]) -> Link
     ensures { λ r. ⌜ (r ≡ link-at (now (s .entry)) from) × Known (now (s .entry)) (now (seen .exit)) ⌝ }
 {
     'link: loop {
-        let mut i = resume(seen[0], seen[1], from);
+        let mut i = resume(seen, 0, from);
         let close = 'close: loop {
             if s.len() <= i {
                 note(seen, 0, from, i);
@@ -99,7 +101,7 @@ fn find_link(s: &[u8], from: usize, seen: &mut [usize; 6]) -> Link
             }
             break 'paren close + 2;
         };
-        let mut j = resume(seen[2], seen[3], target);
+        let mut j = resume(seen, 2, target);
         let end = 'end: loop {
             if s.len() <= j {
                 note(seen, 2, target, j);
@@ -115,31 +117,10 @@ fn find_link(s: &[u8], from: usize, seen: &mut [usize; 6]) -> Link
     }
 }
 
-// Stores a span's map byte and the length of its text.
-fn put_head(out: &mut [u8], at: usize, map: u8, len: usize)
-    requires { ⌜ at < 2 ^ 63 ⌝ }
-    ensures { λ _. ⌜ now (out .exit) ≡ sets (now (out .entry)) at (map ∷ le32 len) ⌝ }
-{
-    put(out, at, map);
-    put_u32(out, at + 1, len);
-}
-
 fn either(a: bool, b: bool) -> bool
     ensures { λ r. ⌜ r ≡ a || b ⌝ }
 {
     a | b
-}
-
-fn bit_of(b: bool, v: u8) -> u8
-    ensures { λ r. ⌜ (r ≡ bit b v) × (r ≤ v) ⌝ }
-{
-    if b { v } else { 0 }
-}
-
-fn map_byte(bold: bool, italic: bool, code: bool, text: bool) -> u8
-    ensures { λ r. ⌜ r ≡ map-byte bold italic code text ⌝ }
-{
-    bit_of(bold, 1) + bit_of(italic, 2) + bit_of(code, 4) + bit_of(text, 8)
 }
 
 // Where the walk is: the next byte of the line; where the pending span's record starts, how long its text is, and how many spans
@@ -188,12 +169,12 @@ fn push(w: State, c: u8, used: usize, out: &mut [u8]) -> State
 fn flush(w: State, bold: bool, italic: bool, out: &mut [u8]) -> State
     requires { ⌜ (w .at + w .len < 2 ^ 63) × (w .count < 2 ^ 63) ⌝ }
     ensures { λ r. ⌜ (r ≡ flush-of w)
-        × (now (out .exit) ≡ sets (now (out .entry)) (w .at) (head (map-byte (w .bold || bold) (w .italic || italic) false true) (w .len))) ⌝ }
+        × (now (out .exit) ≡ sets (now (out .entry)) (w .at) (head (span-map (w .bold || bold) (w .italic || italic) false true) (w .len))) ⌝ }
 {
     if w.len == 0 {
         return w;
     }
-    let map = map_byte(either(w.bold, bold), either(w.italic, italic), false, true);
+    let map = span_map(either(w.bold, bold), either(w.italic, italic), false, true);
     put_head(out, w.at, map, w.len);
     State {
         at: w.at + 5 + w.len,
@@ -214,7 +195,7 @@ fn put_code(w: State, text: &[u8], next: usize, bold: bool, italic: bool, out: &
     let i = either(w.italic, italic);
     let count = w.count + 1;
     if n == 0 {
-        put(out, w.at, map_byte(b, i, true, false));
+        put(out, w.at, span_map(b, i, true, false));
         let at = w.at + 1;
         return State {
             i: next,
@@ -224,7 +205,7 @@ fn put_code(w: State, text: &[u8], next: usize, bold: bool, italic: bool, out: &
             ..w
         };
     }
-    put_head(out, w.at, map_byte(b, i, true, true), n);
+    put_head(out, w.at, span_map(b, i, true, true), n);
     let start = w.at + 5;
     put_bytes(out, start, text);
     let at = start + n;
@@ -348,7 +329,7 @@ fn join_label(
 ) -> State
     requires { ⌜ (w .at + w .len < 2 ^ 63) × (w .count + label .count < 2 ^ 63) ⌝ }
     ensures { λ r. ⌜ (r ≡ link-to w label next)
-        × (now (out .exit) ≡ sets (now (out .entry)) (w .at) (link-head (map-byte (w .bold || bold) (w .italic || italic) false true) (w .len) (label .count))) ⌝ }
+        × (now (out .exit) ≡ sets (now (out .entry)) (w .at) (link-head (span-map (w .bold || bold) (w .italic || italic) false true) (w .len) (label .count))) ⌝ }
 {
     if label.count == 0 {
         return moved(w, next, w.bold, w.italic);

@@ -5,8 +5,7 @@ use Prim.Native.Nat.{ℕ}
 use mathlib.Core.Bool.{Bool, true, false}
 use mathlib.Core.List.{_∷_}
 use lib.Seq.{sets}
-use Rattle.records.specs.Format.{le32}
-use Rattle.spans.specs.Turn.{map-byte}
+use Rattle.records.specs.Format.{le32, span-map}
 use Rattle.spans.proofs.Made.{flush-some, head-some}
 use borrow.Author.Needs.{needs}
 use Rattle.spans.proofs.flush.Statement.{statement}
@@ -21,8 +20,8 @@ either-requires c κs = search needs
 either-requires-2 : tie.Need-either-requires-2
 either-requires-2 c κs = search needs
 
-map-byte-requires : tie.Need-map-byte-requires
-map-byte-requires c κs = search needs
+span-map-requires : tie.Need-span-map-requires
+span-map-requires c κs = search needs
 
 put-head-requires : tie.Need-put-head-requires
 put-head-requires c κs = search needs
@@ -45,7 +44,7 @@ returns-2 c = let a = c .before .before .before .before .before .before .before 
       flush-some (a .w .len) (a .w) ne,
       c .before .before .before .before .before .put-head .ensures
           ∙ ap (sets (a .out .now) (a .w .at))
-          (ap (λ (m : ℕ). m ∷ le32 (a .w .len)) (c .before .before .before .before .before .before .before .map-byte .ensures ∙ ap₂ (λ (x y : Bool). map-byte x y false true) (c .before .before .before .before .before .before .before .before .before .either .ensures) (c .before .before .before .before .before .before .before .before .either2 .ensures))
+          (ap (λ (m : ℕ). m ∷ le32 (a .w .len)) (c .before .before .before .before .before .before .before .span-map .ensures ∙ ap₂ (λ (x y : Bool). span-map x y false true) (c .before .before .before .before .before .before .before .before .before .either .ensures) (c .before .before .before .before .before .before .before .before .either2 .ensures))
           ∙ head-some _ _ ne),
     )
 
@@ -56,7 +55,7 @@ flush-spec =
     returns
     either-requires
     either-requires-2
-    map-byte-requires
+    span-map-requires
     put-head-requires
     add-t11
     add-t12

@@ -2,7 +2,7 @@
 -- Assumes nothing.
 use mathlib.Core.Path.{refl, ap₂, _∙_}
 use mathlib.Core.Bool.{Bool, true, false}
-use Rattle.spans.specs.Turn.{map-byte}
+use Rattle.records.specs.Format.{span-map}
 use Rattle.spans.proofs.Made.{same-state, code-empty, code-some}
 use borrow.Author.Needs.{needs}
 use Rattle.spans.proofs.put_code.Statement.{statement}
@@ -17,8 +17,8 @@ either-requires-2 c κs = search needs
 add-count : tie.Need-add-count
 add-count c = search needs
 
-map-byte-requires : tie.Need-map-byte-requires
-map-byte-requires c κs = search needs
+span-map-requires : tie.Need-span-map-requires
+span-map-requires c κs = search needs
 
 put-requires : tie.Need-put-requires
 put-requires c κs = search needs
@@ -31,12 +31,12 @@ same-length c = search needs
 
 returns : tie.Need-returns
 returns c = let a = c .before .before .before .before .before .before .before .before .before .before .before .before .args in
-    let m = c .before .before .before .before .map-byte .ensures ∙ ap₂ (λ (x y : Bool). map-byte x y true false) (c .before .before .before .before .before .before .before .before .before .either .ensures) (c .before .before .before .before .before .before .before .before .either2 .ensures) in
+    let m = c .before .before .before .before .span-map .ensures ∙ ap₂ (λ (x y : Bool). span-map x y true false) (c .before .before .before .before .before .before .before .before .before .either .ensures) (c .before .before .before .before .before .before .before .before .either2 .ensures) in
     let both = code-empty (a .bold) (a .italic) (a .w) (a .out .now) _ _ (a .text .now) (c .before .before .before .before .before .before .if1 .taken) m (c .before .before .before .put .ensures) in
     (same-state refl (both .0) refl refl refl refl, both .1)
 
-map-byte-requires-2 : tie.Need-map-byte-requires-2
-map-byte-requires-2 c κs = search needs
+span-map-requires-2 : tie.Need-span-map-requires-2
+span-map-requires-2 c κs = search needs
 
 put-head-requires : tie.Need-put-head-requires
 put-head-requires c κs = search needs
@@ -55,7 +55,7 @@ same-length-2 c = search needs
 
 returns-2 : tie.Need-returns-2
 returns-2 c = let a = c .before .before .before .before .before .before .before .before .before .before .before .before .before .before .before .before .args in
-    let m = c .before .before .before .before .before .before .before .before .map-byte2 .ensures ∙ ap₂ (λ (x y : Bool). map-byte x y true true) (c .before .before .before .before .before .before .before .before .before .before .before .before .before .either .ensures) (c .before .before .before .before .before .before .before .before .before .before .before .before .either2 .ensures) in
+    let m = c .before .before .before .before .before .before .before .before .span-map2 .ensures ∙ ap₂ (λ (x y : Bool). span-map x y true true) (c .before .before .before .before .before .before .before .before .before .before .before .before .before .either .ensures) (c .before .before .before .before .before .before .before .before .before .before .before .before .either2 .ensures) in
     let both = code-some (a .bold) (a .italic) (a .w) (a .out .now) _ _ (a .text .now) _ (c .before .before .before .before .before .before .before .before .before .before .if1 .left) m (c .before .before .before .before .before .before .before .put-head .ensures) (c .before .before .put-bytes .ensures) in
     (same-state refl (both .0) refl refl refl refl, both .1)
 
@@ -66,12 +66,12 @@ put-code-spec =
     either-requires
     either-requires-2
     add-count
-    map-byte-requires
+    span-map-requires
     put-requires
     add-at
     same-length
     returns
-    map-byte-requires-2
+    span-map-requires-2
     put-head-requires
     add-start
     put-bytes-requires

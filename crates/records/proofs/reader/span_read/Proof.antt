@@ -19,19 +19,16 @@ returns-3 c =
     let a = c .before .before .before .before .before .args in
     span-high (a .s .now) (a .at) (c .before .before .before .if1 .left) (c .before .if2 .left) (c .if3 .taken)
 
-add-t14 : tie.Need-add-t14
-add-t14 c = search needs
+add-from : tie.Need-add-from
+add-from c = search needs
 
-add-t15 : tie.Need-add-t15
-add-t15 c = search needs
+span-of-requires : tie.Need-span-of-requires
+span-of-requires c κs = search needs
 
 returns-4 : tie.Need-returns-4
 returns-4 c =
-    let a = c .before .before .before .before .before .before .args in
-    span-bare (a .s .now) (a .at) (c .before .before .before .before .if1 .left) (c .before .before .if2 .left) (c .before .if3 .left) (c .if4 .taken)
-
-add-text-read : tie.Need-add-text-read
-add-text-read c = search needs
+    let a = c .before .before .before .before .before .before .before .args in
+    span-bare (a .s .now) (a .at) (c .before .before .before .before .before .if1 .left) (c .before .before .before .if2 .left) (c .before .before .if3 .left) (c .before .if4 .taken) (c .span-of .ensures)
 
 text-read-requires : tie.Need-text-read-requires
 text-read-requires c κs = search needs
@@ -46,35 +43,18 @@ returns-5 : tie.Need-returns-5
 returns-5 c =
     let a = c .before .before .before .before .before .before .before .before .before .args in
     span-none (a .s .now) (a .at)
-    (c .before .before .before .before .before .before .before .if1 .left)
-    (c .before .before .before .before .before .if2 .left)
-    (c .before .before .before .before .if3 .left) (c .before .before .before .if4 .left) (c .before .before .text-read .ensures)
-    (c .enum-told .given .1)
+    (c .before .before .before .before .before .before .before .if1 .left) (c .before .before .before .before .before .if2 .left) (c .before .before .before .before .if3 .left) (c .before .before .before .if4 .left)
+    (c .before .before .text-read .ensures) (c .enum-told .given .1)
+
+span-of-requires-2 : tie.Need-span-of-requires-2
+span-of-requires-2 c κs = search needs
 
 returns-6 : tie.Need-returns-6
 returns-6 c =
-    let a = c .before .before .before .before .before .before .before .before .before .before .args in
+    let a = c .before .before .before .before .before .before .before .before .before .before .before .args in
     span-is (a .s .now) (a .at)
-    (c .before .before .before .before .before .before .before .before .if1 .left)
-    (c .before .before .before .before .before .before .if2 .left)
-    (c .before .before .before .before .before .if3 .left)
-    (c .before .before .before .before .if4 .left)
-    (c .before .before .before .text-read .ensures) (c .before .start .given .1)
+    (c .before .before .before .before .before .before .before .before .before .if1 .left) (c .before .before .before .before .before .before .before .if2 .left) (c .before .before .before .before .before .before .if3 .left) (c .before .before .before .before .before .if4 .left)
+    (c .before .before .before .before .text-read .ensures) (c .before .before .start .given .1) (c .span-of2 .ensures)
 
 pub span-read-spec : {M : Type 1} → statement M
-span-read-spec =
-    tie.close
-    (tie.spec
-    returns
-    shared-slice-read-m
-    returns-2
-    returns-3
-    add-t14
-    add-t15
-    returns-4
-    add-text-read
-    text-read-requires
-    enum-known-start
-    enum-told
-    returns-5
-    returns-6)
+span-read-spec = tie.close (tie.spec returns shared-slice-read-m returns-2 returns-3 add-from span-of-requires returns-4 text-read-requires enum-known-start enum-told returns-5 span-of-requires-2 returns-6)

@@ -1,5 +1,6 @@
 -- `walker::first_at` meets its contract: each return is answered by one law, over plain lists and numbers.
 -- Assumes nothing.
+use mathlib.Core.Path.{sym}
 use Rattle.records.proofs.Blocks.{whole-bad, whole-found}
 use Rattle.records.proofs.WalkerLaws.{first-end, first-bad, first-is}
 use borrow.Author.Needs.{needs}
@@ -7,7 +8,7 @@ use Rattle.records.proofs.walker.first_at.Statement.{statement}
 use Rattle.records.proofs.walker.first_at.Tie as tie
 
 returns : tie.Need-returns
-returns c = let a = c .before .before .args in first-end (a .records .now) (a .block) (c .if1 .taken)
+returns c = let a = c .before .before .args in first-end (a .records .now) (a .at) (sym (c .if1 .taken))
 
 whole-at-requires : tie.Need-whole-at-requires
 whole-at-requires c κs = search needs
@@ -21,14 +22,14 @@ enum-told c = search needs
 returns-2 : tie.Need-returns-2
 returns-2 c =
     let a = c .before .before .before .before .before .args in
-    first-bad (a .records .now) (a .block) (c .before .before .before .if1 .left)
-    (whole-bad (a .records .now) (a .block) (c .before .before .whole-at .ensures) (c .enum-told .given .1))
+    first-bad (a .records .now) (a .at) (λ e. c .before .before .before .if1 .left (sym e))
+    (whole-bad (a .records .now) (a .at) (c .before .before .whole-at .ensures) (c .enum-told .given .1))
 
 returns-3 : tie.Need-returns-3
 returns-3 c =
     let a = c .before .before .before .before .before .before .args in
-    first-is (a .records .now) (a .block)
-    (whole-found (a .records .now) (a .block) (c .before .before .before .whole-at .ensures) (c .before .first .given .1))
+    first-is (a .records .now) (a .at)
+    (whole-found (a .records .now) (a .at) (c .before .before .before .whole-at .ensures) (c .before .first .given .1))
 
 pub first-at-spec : {M : Type 1} → statement M
 first-at-spec =
