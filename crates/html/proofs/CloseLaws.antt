@@ -19,9 +19,10 @@ use Rattle.text.specs.declared.Char.the-variants.{Bad}
 use Rattle.text.proofs.Tests.{decide, on, and-true}
 use Rattle.text.proofs.Utf8.{utf8-1, char-1}
 use Rattle.text.proofs.Laws.{by-chars, chars-nil, chars-utf8, chars-bad, Tails, Long, utf8-long, encode-chars}
-use Rattle.text.proofs.AsciiLaws.{Ascii, chars-ascii, starts-chars}
-use Rattle.text.proofs.FindLaws.{since}
+use Rattle.text.proofs.AsciiLaws.{chars-ascii, starts-chars}
 use Rattle.text.proofs.TrimLaws.{chars-start, end-space, end-other}
+use Rattle.text.specs.Find.{since}
+use Rattle.text.specs.Chars.{Ascii}
 use Rattle.html.specs.Struct.{closed}
 
 -- ---- an ASCII text that stands at the start is as long in bytes as in characters

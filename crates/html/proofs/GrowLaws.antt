@@ -14,7 +14,7 @@ use Rattle.text.specs.Decimal.{digits, decimal}
 use Rattle.text.proofs.Tests.{on}
 use Rattle.text.proofs.Utf8.{utf8-1}
 use Rattle.text.proofs.Laws.{utf8-size}
-use Rattle.text.proofs.AsciiLaws.{Ascii}
+use Rattle.text.specs.Chars.{Ascii}
 use Rattle.html.specs.State.{State, with-out, push-str, line-start, block, newline, spaced}
 use Rattle.html.specs.Struct.{state-of, out-of, marks-of}
 use Rattle.html.specs.declared.Converter.{Converter}

@@ -13,12 +13,12 @@ use lib.ListN.{length, getD, set, take, drop, replicate, length-append, drop-of-
 use lib.Seq.{sets, length-sets, getD-set-same, getD-set-other, take-suc, take-at, drop-cons, length-take-le, take-all}
 use borrow.Author.Tests.{ltb-true, ltb-false, eq-eqb, ne-eqb, eqb-true, eqb-false}
 use Rattle.text.specs.Words.{drop-while, is, starts}
-use Rattle.text.specs.Chars.{is-digit}
+use Rattle.text.specs.Chars.{is-digit, Ascii}
 use Rattle.text.specs.Utf8.{IsScalar, utf8, encode, size, tail, chars}
 use Rattle.text.proofs.Tests.{decide, within-above, and-false}
 use Rattle.text.proofs.Utf8.{utf8-1}
 use Rattle.text.proofs.Laws.{chars-nil, chars-utf8, chars-append, encode-chars, encode-append, utf8-lead, size-chars}
-use Rattle.text.proofs.AsciiLaws.{Ascii, chars-ascii}
+use Rattle.text.proofs.AsciiLaws.{chars-ascii}
 use Rattle.text.proofs.PutLaws.{put-parts}
 use Rattle.html.specs.State.{line-start, ends-with-digit}
 use Rattle.html.specs.Struct.{written, out-of}

@@ -14,12 +14,12 @@ use borrow.Author.Tests.{eqb-true, lt-ltb, le-ltb, ltb-true, ltb-false}
 use Rattle.text.specs.Words.{if_then_else_, _>>=_, case, str, starts-with, starts, index, find}
 use Rattle.text.specs.Utf8.{Scalars, encode, size, chars}
 use Rattle.text.specs.Trim.{trim}
-use Rattle.text.specs.Find.{found}
+use Rattle.text.specs.Find.{found, until, since}
 use Rattle.text.specs.declared.Found.the-variants.{Here, Nowhere}
 use Rattle.text.proofs.Tests.{on}
 use Rattle.text.proofs.Laws.{size-chars, chars-nil, advance-end, encode-chars}
 use Rattle.text.proofs.AsciiLaws.{chars-ascii, starts-chars}
-use Rattle.text.proofs.FindLaws.{until, since, until-since, chars-until, chars-since, index-until, IsHere, found-here, found-nowhere}
+use Rattle.text.proofs.FindLaws.{until-since, chars-until, chars-since, index-until, IsHere, found-here, found-nowhere}
 use Rattle.html.specs.State.{State}
 use Rattle.html.specs.Page.{inside, words, Turn, read, refused, tag-read, comment, a-tag, markup, turn, on-turn, loop}
 use Rattle.html.specs.Struct.{state-of, tagged, turned, left, closed}

@@ -10,11 +10,11 @@ use lib.ListN.{length, drop, getD, drop-of-length-le}
 use lib.Dec.{leb, eqb}
 use borrow.Author.Tests.{eqb-true, eq-eqb, ne-eqb, leb-true, le-leb, lt-leb}
 use Rattle.text.specs.Words.{same, str}
-use Rattle.text.specs.Chars.{is-digit}
+use Rattle.text.specs.Chars.{is-digit, Ascii}
 use Rattle.text.specs.Utf8.{Scalars, utf8, size, chars}
 use Rattle.text.proofs.Tests.{and-true, or-elim, within-true}
 use Rattle.text.proofs.Laws.{encode-chars}
-use Rattle.text.proofs.AsciiLaws.{Ascii, encode-ascii}
+use Rattle.text.proofs.AsciiLaws.{encode-ascii}
 use Rattle.records.specs.Format.{is-bullet, digits-stop, is-ordinal, is-marker}
 use Rattle.records.proofs.TextMore.{test-iff, same-true, same-encode, scalars-ascii, chars-same, size-encode}
 use Rattle.records.proofs.Front.{front, front2}

@@ -1,7 +1,7 @@
 -- The laws of the run of elements that a list starts with: one turn of a loop that passes over it, element by element or by blocks.
 -- Assumes nothing.
 use Prim.Native.Nat.{ℕ, zero, suc, _+_, _≤_, _<_}
-use mathlib.Core.Bool.{Bool, true, false, cond, _&&_}
+use mathlib.Core.Bool.{Bool, true, false, cond, _&&_, and-assoc, and-true as and-true-right}
 use mathlib.Core.List.{List, [], _∷_, _++_}
 use mathlib.Core.Path.{_≡_, refl, sym, ap, _∙_}
 use native.Mathlib.Numerals.{add-one}
@@ -10,7 +10,7 @@ use lib.ListN.{length, getD, take, drop, length-drop, drop-of-length-le}
 use lib.Seq.{drop-cons, drop-drop, take-suc}
 use Rattle.text.specs.Words.{all, take-while, drop-while}
 use Rattle.text.specs.Run.{RunTo}
-use Rattle.text.proofs.Tests.{on, and-true, and-assoc, and-true-right}
+use Rattle.text.proofs.Tests.{on, and-true}
 
 module _ (p : ℕ → Bool) where
   pub run-next : (s : List ℕ) (j : ℕ) → j < length s → p (getD s j 0) ≡ true
