@@ -24,10 +24,6 @@ pub cut-more : (n c : ℕ) (cs : List ℕ) → length (utf8 c) ≤ n → length 
 unfolding cut
 cut-more n c cs h = rw (le-leb _ _ h) (length-append (utf8 c) (encode (cut (n - length (utf8 c)) cs)))
 
-pub cut-some : (n c : ℕ) (cs : List ℕ) → length (utf8 c) ≤ n → cut n (c ∷ cs) ≡ c ∷ cut (n - length (utf8 c)) cs
-unfolding cut
-cut-some n c cs h = rw (le-leb _ _ h)
-
 pub cut-none : (n c : ℕ) (cs : List ℕ) → n < length (utf8 c) → cut n (c ∷ cs) ≡ []
 unfolding cut
 cut-none n c cs h = rw (lt-leb _ _ h)

@@ -360,20 +360,6 @@ some-char s i n e z = by (char (drop i s)) refl e
     by Bad h q = absurd (z q)
     by End h q = absurd (z q)
 
-pub size-none : (s : List ℕ) (i : ℕ) → i < length s → char-size (char (drop i s)) ≡ 0 → size-of (char (drop i s)) ≡ 1
-size-none s i l e =
-    ⊎-elim (λ h. ap size-of h)
-    (λ h. let d = rw h at (sound (drop i s)) in absurd (omega (arith, ap length d, length-drop i s)))
-    (no-char s i e)
-
-pub size-some : (s : List ℕ) (i : ℕ) → (char-size (char (drop i s)) ≡ 0 → ⊥) → char-size (char (drop i s)) ≡ size-of (char (drop i s))
-size-some s i z = by (char (drop i s)) z
-  where
-    by : (x : Char) → (char-size x ≡ 0 → ⊥) → char-size x ≡ size-of x
-    by (At c n) z = refl
-    by Bad z = absurd (z refl)
-    by End z = absurd (z refl)
-
 -- bytes that are left, and start no character, are not UTF-8
 pub stuck : (s : List ℕ) (i : ℕ) → i < length s → (char (drop i s) ≡ Bad) ⊎ (char (drop i s) ≡ End) → all is-scalar (chars (drop i s)) ≡ false
 stuck s i l (inl e) = simp (advance-bad s i e .1, stray-false (getD s i 0))
@@ -453,6 +439,23 @@ code-is s i l = by (char (drop i s)) refl
     by (At c n) e = code-char s i c n e
     by Bad e = code-bad s i e
     by End e = let d = rw e at (sound (drop i s)) in absurd (omega (arith, ap length d, length-drop i s))
+
+-- what stands at an offset, by the code there
+module _ (s : List ℕ) (i : ℕ) (l : i < length s) where
+  pub char-code-is : (code-at s i ≤ 0x10FFFF → char (drop i s) ≡ At (code-at s i) (length (utf8 (code-at s i)))) × (0x10FFFF < code-at s i → char (drop i s) ≡ Bad)
+  char-code-is = by (char (drop i s)) refl
+    where
+      by : (x : Char) → char (drop i s) ≡ x
+          → (code-at s i ≤ 0x10FFFF → x ≡ At (code-at s i) (length (utf8 (code-at s i)))) × (0x10FFFF < code-at s i → x ≡ Bad)
+      by (At c n) e =
+          let h = advance s i c n e in
+          let q = code-char s i c n e in
+          (λ _. rw (q, h .size), λ k. absurd (omega (arith, top c (h .scalar))))
+      by Bad e = let q = code-bad s i e in (λ k. absurd (omega arith), λ _. refl)
+      by End e = let d = rw e at (sound (drop i s)) in absurd (omega (arith, ap length d, length-drop i s))
+
+  pub size-code : size-of (char (drop i s)) ≡ length (utf8 (code-at s i))
+  size-code = let h = next-is s i l in sym (h .size) ∙ ap (λ (c : ℕ). length (utf8 c)) (sym (code-first s i (h .code) _ (h .rest)))
 
 pub record Turn (s : List ℕ) (i c : ℕ) : Type 0 where
   pub low : 1 ≤ length (utf8 c)
