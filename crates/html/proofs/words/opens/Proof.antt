@@ -2,7 +2,7 @@
 -- Assumes nothing.
 use lib.Dec.{eqb}
 use Rattle.html.specs.Pen.{opens}
-use Rattle.html.proofs.TextLaws.{five}
+use Rattle.text.proofs.Tests.{or-five as five}
 use Rattle.html.proofs.words.opens.Statement.{statement}
 use Rattle.html.proofs.words.opens.Tie as tie
 use Rattle.html.proofs.words.opens.Reads as reads

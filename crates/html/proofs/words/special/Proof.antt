@@ -2,7 +2,7 @@
 -- Assumes nothing.
 use lib.Dec.{eqb}
 use Rattle.html.specs.State.{special}
-use Rattle.html.proofs.TextLaws.{five}
+use Rattle.text.proofs.Tests.{or-five as five}
 use Rattle.html.proofs.words.special.Statement.{statement}
 use Rattle.html.proofs.words.special.Tie as tie
 use Rattle.html.proofs.words.special.Reads as reads
