@@ -1,25 +1,20 @@
 -- The bytes of a character above ASCII, in a text that is UTF-8, and what the code makes of them.
 -- Assumes nothing.
-use Prim.Native.Nat.{ℕ, zero, suc, _+_, _-_, _*_, _/_, _%_, _≤_, _<_}
+use Prim.Native.Nat.{ℕ, _+_, _-_, _*_, _/_, _%_, _≤_, _<_}
 use native.Mathlib.Omega.{arith}
 use native.Mathlib.Nat.{add-zero}
 use native.Mathlib.Numerals.{add-one, add-two, add-three}
 use mathlib.Core.Path.{_≡_, refl, sym, ap, _∙_, subst}
-use mathlib.Core.Logic.{_⊎_, inl, inr}
 use mathlib.Core.List.{List, [], _∷_, _++_}
 use lib.ListN.{length, getD, set, take, drop}
 use lib.Seq.{sets, getD-take, getD-append-add, length-take-le}
-use Rattle.text.specs.Utf8.{IsScalar, Scalars, utf8, chars, code-at}
-use Rattle.text.proofs.Utf8.{utf8-1, utf8-2, utf8-3, utf8-4, ranges}
+use Rattle.text.specs.Utf8.{Scalars, utf8, chars, code-at}
+use Rattle.text.proofs.Utf8.{utf8-1, utf8-2, utf8-3, utf8-4, ranges, top}
 use Rattle.text.proofs.Laws.{turn-is}
 use Rattle.html.specs.Pen.{Unescaped}
 use Rattle.html.specs.Struct.{out-of}
 use Rattle.html.proofs.OutLaws.{out-put}
 use Rattle.html.proofs.TextLaws.{piece, piece-other}
-
-scalar-most : (c : ℕ) → IsScalar c → c < 0x110000
-scalar-most c (inl h) = omega arith
-scalar-most c (inr h) = omega (arith, h .1)
 
 -- the character's number, its bytes, and their room
 data Above (s : List ℕ) (i : ℕ) : Type 0 where
@@ -73,7 +68,7 @@ module _ (s : List ℕ) (i : ℕ) (l : i < length s) (h : Scalars (chars (drop i
       three code refl k m e (room 3 e) (first-is 3 e (omega arith) ∙ ap (λ (x : List ℕ). getD x 0 0) u) (byte-is 1 3 e (omega arith) ∙ ap (λ (x : List ℕ). getD x 1 0) u)
       (byte-is 2 3 e (omega arith) ∙ ap (λ (x : List ℕ). getD x 2 0) u))
       (λ k.
-      let m = scalar-most code (subst Scalars (turn-is s i l .rest) h .0) in
+      let m : code < 0x110000 = omega (arith, top code (subst Scalars (turn-is s i l .rest) h .0)) in
       let u = utf8-4 code k m in
       let e : length (utf8 code) ≡ 4 = ap length u in
       four code refl k m e (room 4 e) (first-is 4 e (omega arith) ∙ ap (λ (x : List ℕ). getD x 0 0) u) (byte-is 1 4 e (omega arith) ∙ ap (λ (x : List ℕ). getD x 1 0) u)

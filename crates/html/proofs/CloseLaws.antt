@@ -1,38 +1,27 @@
--- Where a comment ends, in bytes as in characters; and what is left of a text without its spaces, in bytes as in characters.
+-- Where a comment ends, in bytes as in characters.
 -- Assumes nothing.
-use Prim.Native.Nat.{ℕ, zero, suc, _+_, _-_, _≤_, _<_}
+use Prim.Native.Nat.{ℕ, suc, _+_, _≤_, _<_}
 use native.Mathlib.Omega.{arith}
 use native.Mathlib.Numerals.{add-one}
-use mathlib.Core.Path.{_≡_, refl, sym, ap, _∙_, subst}
-use mathlib.Core.Bool.{Bool, true, false, cond, _&&_}
-use mathlib.Core.Logic.{_⊎_, inl, inr, ⊎-elim}
+use mathlib.Core.Path.{_≡_, refl, sym, ap, _∙_}
+use mathlib.Core.Bool.{Bool, true, false, cond}
+use mathlib.Core.Logic.{⊎-elim}
 use mathlib.Core.Option.{Option, some, none}
 use mathlib.Core.List.{List, [], _∷_, _++_}
 use lib.Dec.{eqb, ltb}
-use lib.ListN.{length, getD, take, drop, drop-of-length-le, length-drop}
-use lib.Seq.{drop-cons, drop-drop, take-length}
-use borrow.Author.Tests.{eq-eqb, ne-eqb, eqb-true, ltb-true, ltb-false}
-use Rattle.text.specs.Words.{if_then_else_, _>>=_, case, str, starts-with, starts, index, find}
-use Rattle.text.specs.Utf8.{IsScalar, utf8, encode, chars, stray, char}
-use Rattle.text.specs.Trim.{trim-start, trim-end, trim, space-before}
-use Rattle.text.specs.declared.Char.the-variants.{Bad}
-use Rattle.text.proofs.Tests.{decide, on, and-true}
-use Rattle.text.proofs.Utf8.{utf8-1, char-1}
-use Rattle.text.proofs.Laws.{by-chars, chars-nil, chars-utf8, chars-bad, Tails, Long, utf8-long, encode-chars}
-use Rattle.text.proofs.AsciiLaws.{Ascii, chars-ascii, starts-chars}
-use Rattle.text.proofs.FindLaws.{since}
-use Rattle.text.proofs.TrimLaws.{chars-start, end-space, end-other}
+use lib.ListN.{length, getD, drop, drop-of-length-le}
+use lib.Seq.{drop-cons, drop-drop}
+use borrow.Author.Tests.{eq-eqb, ne-eqb, ltb-true, ltb-false}
+use Rattle.text.specs.Words.{if_then_else_, _>>=_, case, starts, index, find}
+use Rattle.text.specs.Utf8.{utf8, chars, stray}
+use Rattle.text.proofs.Tests.{decide, starts-room}
+use Rattle.text.proofs.Utf8.{utf8-1}
+use Rattle.text.proofs.Laws.{by-chars, chars-nil, chars-utf8, chars-bad, Tails, Long, utf8-long, lost-high}
+use Rattle.text.proofs.AsciiLaws.{chars-ascii, starts-chars, drop-chars}
+use Rattle.text.specs.Find.{since}
 use Rattle.html.specs.Struct.{closed}
 
 -- ---- an ASCII text that stands at the start is as long in bytes as in characters
-pub drop-chars : (p bs : List ℕ) → Ascii p → starts-with p bs ≡ true → chars (drop (length p) bs) ≡ drop (length p) (chars bs)
-drop-chars [] bs a h = refl
-drop-chars (d ∷ p) [] a h = let z : _≡_ {A = ℕ} 0 1 = cc in absurd (omega arith)
-drop-chars (d ∷ p) (b ∷ bs) a h =
-    let q = and-true (eqb b d) (starts-with p bs) h in
-    let e = eqb-true b d (q .0) in
-    rw (chars-ascii b bs (omega arith)) (drop-chars p bs (a .1) (q .1))
-
 abbrev arrow : List ℕ
 arrow = 45 ∷ 45 ∷ 62 ∷ []
 
@@ -62,15 +51,6 @@ closed-tails (y ∷ ys) zs h = closed-not y (ys ++ zs) (omega arith) ∙ closed-
 closed-long : (ys zs : List ℕ) → Long ys → closed (ys ++ zs) ≡ closed zs
 closed-long [] zs h = absurd h
 closed-long (y ∷ ys) zs h = closed-not y (ys ++ zs) (omega arith) ∙ closed-tails ys zs (h .1)
-
-lost-high : (x : ℕ) (xs : List ℕ) → char (x ∷ xs) ≡ Bad → 0x80 ≤ x
-lost-high x xs e =
-    ⊎-elim
-    (λ l.
-    let f = char-1 x xs (omega (arith, ltb-true x 0x80 l)) in
-    let z : _≡_ {A = ℕ} 0 1 = cc in absurd (omega arith))
-    (λ l. ltb-false x 0x80 l)
-    (decide (ltb x 0x80))
 
 closed-ascii : (x : ℕ) (bs : List ℕ) → x < 0x80 → chars (closed bs) ≡ closed (chars bs) → chars (closed (x ∷ bs)) ≡ closed (chars (x ∷ bs))
 closed-ascii x bs h ih =
@@ -152,43 +132,5 @@ closed-past s j h = rw (drop-of-length-le s h) closed-nil
 pub closed-other : (s : List ℕ) (j : ℕ) → j < length s → (getD s j 0 ≡ 45 → ⊥) → closed (drop j s) ≡ closed (drop (j + 1) s)
 closed-other s j l h = ap closed (drop-cons s j 0 l) ∙ closed-not (getD s j 0) (drop (suc j) s) h ∙ ap (λ (k : ℕ). closed (drop k s)) (sym (add-one j))
 
-starts-long : (p xs : List ℕ) → starts-with p xs ≡ true → length p ≤ length xs
-starts-long [] xs e = omega arith
-starts-long (d ∷ p) [] e = let z : _≡_ {A = ℕ} 0 1 = cc in absurd (omega arith)
-starts-long (d ∷ p) (x ∷ xs) e = omega (arith, starts-long p xs (and-true (eqb x d) (starts-with p xs) e .1))
-
--- what stands at an offset has room there
-pub starts-room : (p s : List ℕ) (j : ℕ) → 1 ≤ length p → starts-with p (drop j s) ≡ true → j + length p ≤ length s
-starts-room p s j l h = omega (arith, starts-long p (drop j s) h, length-drop j s)
-
 pub arrow-room : (s : List ℕ) (j : ℕ) → starts "-->" (drop j s) ≡ true → j + 3 ≤ length s
 arrow-room s j h = starts-room arrow s j (omega arith) h
-
--- ---- a text without the spaces after it, and at both ends
-end-step : (s : List ℕ) (e : ℕ) → e ≤ length s → ((f : ℕ) → f < e → (k : ℕ) × (trim-end (chars (take f s)) ≡ chars (take k s)))
-    → (k : ℕ) × (trim-end (chars (take e s)) ≡ chars (take k s))
-end-step s e l ih = go (space-before s e) refl
-  where
-    go : (k : ℕ) → space-before s e ≡ k → (k : ℕ) × (trim-end (chars (take e s)) ≡ chars (take k s))
-    go zero q = (e, end-other s e l q)
-    go (suc k) q =
-        let h = end-space s e (suc k) (sym q) (omega arith) in
-        let b = h .0 in
-        let r = ih (e - suc k) (omega arith) in
-        (r .0, h .1 ∙ r .1)
-
-end-found : (n : ℕ) (s : List ℕ) (e : ℕ) → e ≤ n → e ≤ length s → (k : ℕ) × (trim-end (chars (take e s)) ≡ chars (take k s))
-end-found zero s e m l = end-step s e l (λ f h. absurd (omega arith))
-end-found (suc n) s e m l = end-step s e l (λ f h. end-found n s f (omega arith) (omega arith))
-
-pub chars-end : (s : List ℕ) → chars (encode (trim-end (chars s))) ≡ trim-end (chars s)
-chars-end s =
-    let r = end-found (length s) s (length s) (omega arith) (omega arith) in
-    let e : trim-end (chars s) ≡ chars (take (r .0) s) = ap (λ (x : List ℕ). trim-end (chars x)) (sym (take-length s)) ∙ r .1 in
-    ap (λ (x : List ℕ). chars (encode x)) e ∙ ap chars (encode-chars (take (r .0) s)) ∙ sym e
-
-pub chars-trim : (s : List ℕ) → chars (encode (trim (chars s))) ≡ trim (chars s)
-chars-trim s =
-    ap (λ (x : List ℕ). chars (encode (trim-end x))) (sym (chars-start s))
-    ∙ chars-end (encode (trim-start (chars s)))
-    ∙ ap trim-end (chars-start s)

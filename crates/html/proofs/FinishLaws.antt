@@ -1,25 +1,26 @@
 -- The end of a conversion and the whole call: what is cut and copied, and the answer in each case.
 -- Assumes nothing.
-use Prim.Native.Nat.{ℕ, zero, suc, _+_, _-_, _*_, _≤_, _<_}
+use Prim.Native.Nat.{ℕ, _+_, _-_, _*_, _≤_, _<_}
 use native.Mathlib.Omega.{arith}
 use native.Mathlib.Numerals.{add-one}
-use mathlib.Core.Path.{_≡_, refl, sym, ap, _∙_, subst}
-use mathlib.Core.Bool.{Bool, true, false}
+use mathlib.Core.Path.{_≡_, sym, ap, _∙_}
+use mathlib.Core.Bool.{true, false}
 use mathlib.Core.Option.{Option, some, none}
-use mathlib.Core.List.{List, [], _∷_, _++_, reverse, reverse-reverse}
+use mathlib.Core.List.{List, [], _∷_, reverse-reverse}
 use lib.Dec.{leb}
 use lib.ListN.{length, getD, take, drop, set, length-append, length-take, drop-of-length-le}
-use lib.Seq.{take-suc, drop-cons, take-all, sets}
-use borrow.Author.Tests.{lt-ltb, le-ltb, leb-true, le-leb}
-use Rattle.text.specs.Words.{if_then_else_, _>>=_, case}
-use Rattle.text.specs.Utf8.{Scalars, utf8, encode, size, chars, is-utf8, decode}
+use lib.Seq.{drop-cons}
+use borrow.Author.Tests.{lt-ltb, le-ltb, leb-true}
+use Rattle.text.specs.Words.{_>>=_, case}
+use Rattle.text.specs.Utf8.{Scalars, utf8, encode, size, chars, is-utf8}
 use Rattle.text.specs.Trim.{trim}
 use Rattle.text.specs.Cut.{cut}
 use Rattle.text.specs.Outcome.{Outcome, refused, wrote, number, returned, front, result-after, work-kept}
 use Rattle.text.proofs.Tests.{on}
-use Rattle.text.proofs.Laws.{size-encode, utf8-size, decode-true, decode-false, scalars-true, chars-encode, encode-chars}
+use Rattle.text.proofs.Laws.{size-encode, utf8-size, decode-true, decode-false, chars-encode, utf8-scalars}
 use Rattle.text.proofs.CutLaws.{take-cut}
-use Rattle.text.proofs.Buffer.{Filled, filled-none, filled-more, filled-all, filled-length}
+use Rattle.text.proofs.Buffer.{Filled, filled-more, filled-all}
+use Rattle.text.proofs.TrimLaws.{chars-trim}
 use Rattle.html.specs.State.{State, new}
 use Rattle.html.specs.Page.{loop, finish, html-to-markdown}
 use Rattle.html.specs.Struct.{state-of, out-of, written, tagged}
@@ -29,7 +30,6 @@ use Rattle.html.specs.declared.Answer.{Answer}
 use Rattle.html.specs.declared.Tagged.{Tagged}
 use Rattle.html.specs.declared.Converter.{Converter}
 use Rattle.html.proofs.OutLaws.{written-take}
-use Rattle.html.proofs.CloseLaws.{chars-trim}
 
 -- ---- 8,000 characters have at most 32,000 bytes
 encode-most : (cs : List ℕ) → length (encode cs) ≤ 4 * length cs
@@ -56,18 +56,6 @@ cut-most n (c ∷ cs) =
     (λ e. omega (arith, leb-true (length (utf8 c)) n e, length-append (utf8 c) (encode (cut (n - length (utf8 c)) cs))))
     (λ _. omega arith)
 
-cut-whole : (n : ℕ) (cs : List ℕ) → length (encode cs) ≤ n → cut n cs ≡ cs
-unfolding cut
-cut-whole n [] h = refl
-cut-whole n (c ∷ cs) h =
-    let l = length-append (utf8 c) (encode cs) in
-    rw (le-leb (length (utf8 c)) n (omega arith)) (ap (λ (x : List ℕ). c ∷ x) (cut-whole (n - length (utf8 c)) cs (omega arith)))
-
-pub cut-all : (page : List ℕ) (n : ℕ) → length page ≤ n → length page ≡ length (encode (cut n (chars page)))
-cut-all page n h =
-    let e = ap length (encode-chars page) in
-    sym (ap (λ (x : List ℕ). length (encode x)) (cut-whole n (chars page) (omega arith)) ∙ e)
-
 cut-scalars : (n : ℕ) (cs : List ℕ) → Scalars cs → Scalars (cut n cs)
 unfolding cut
 cut-scalars n [] h = tt
@@ -79,8 +67,7 @@ read-of page = cut 1048576 (chars page)
 
 module _ (page : List ℕ) (u : is-utf8 page ≡ true) where
   pub page-scalars : Scalars (chars page)
-  unfolding is-utf8
-  page-scalars = scalars-true (chars page) u
+  page-scalars = utf8-scalars page u
 
   module _ (n : ℕ) (e : n ≡ length (encode (cut 1048576 (chars page)))) where
     pub cut-small : n ≤ 1048576

@@ -1,32 +1,32 @@
 -- What the loop over a page keeps: at most 64 lists are open, a list's number grows by at most one a turn, and the output stays below a bound.
 -- Assumes nothing.
-use Prim.Native.Nat.{ℕ, zero, suc, _+_, _-_, _*_, _^_, _≤_, _<_, min}
+use Prim.Native.Nat.{ℕ, zero, suc, _+_, _*_, _^_, _≤_, _<_, min}
 use native.Mathlib.Omega.{arith}
-use mathlib.Core.Path.{_≡_, refl, sym, ap, _∙_, subst}
+use mathlib.Core.Path.{_≡_, refl, ap, _∙_, subst}
 use mathlib.Core.Bool.{Bool, true, false, not, _&&_, _||_}
 use mathlib.Core.Option.{Option, some, none}
-use mathlib.Core.List.{List, [], _∷_, _++_, reverseAux, tail}
-use lib.Dec.{ltb, leb}
+use mathlib.Core.List.{List, [], _∷_, _++_, tail}
+use lib.Dec.{leb}
 use lib.ListN.{length, getD, take, drop, replicate, take-append-drop}
-use borrow.Author.Tests.{ltb-true, leb-false}
-use Rattle.text.specs.Words.{if_then_else_, case, str, repeat, is-empty, same, starts, find}
-use Rattle.text.specs.Utf8.{utf8, size}
+use borrow.Author.Tests.{leb-false}
+use Rattle.text.specs.Words.{case, str, repeat, is-empty, same, starts, find}
+use Rattle.text.specs.Utf8.{size}
 use Rattle.text.specs.Trim.{trim}
 use Rattle.text.specs.Decimal.{decimal}
 use Rattle.text.proofs.Tests.{on}
 use Rattle.text.proofs.Utf8.{utf8-1}
-use Rattle.text.proofs.Laws.{size-append}
-use Rattle.html.specs.State.{State, new, with-out, with-lists, with-skip, push-str, block, newline, spaced, marks, list-changed, item, heading, tag, tag-of, text}
+use Rattle.text.proofs.Laws.{size-append, size-aux}
+use Rattle.html.specs.State.{State, new, with-lists, push-str, block, newline, marks, list-changed, item, heading, tag, tag-of, text}
 use Rattle.html.specs.Page.{listed, shown, skipped, element, inside, words, Turn, read, refused, tag-read, comment, a-tag, markup, turn}
-use Rattle.html.specs.Struct.{tag-means, step-means, list-tag, number}
+use Rattle.html.specs.Struct.{tag-means, step-means, list-tag}
+use Rattle.text.proofs.AsciiLaws.{size-ascii}
 use Rattle.html.specs.Names.{says}
 use Rattle.html.specs.declared.Tag.{Tag}
 use Rattle.html.specs.declared.Tag.the-variants.{Ul, Ol, Skipped, Writes}
 use Rattle.html.specs.declared.Step.{Step}
 use Rattle.html.specs.declared.Step.the-variants.{Heading, Block, Pre, Break, Item, Row, Cell, Strong, Emphasis, Code, Other}
-use Rattle.html.proofs.OutLaws.{size-aux}
 use Rattle.html.proofs.NumberLaws.{decimal-few}
-use Rattle.html.proofs.GrowLaws.{size-ascii, decimal-ascii, grow-str, grow-times, grow-block, grow-newline, grow-marks}
+use Rattle.html.proofs.GrowLaws.{decimal-ascii, grow-str, grow-times, grow-block, grow-newline, grow-marks}
 use Rattle.html.proofs.StepLaws.{block-lists, newline-lists, spaced-lists, heading-open, listed-ul, listed-ol, listed-step, listed-other}
 use Rattle.html.proofs.NameLaws.{says-means}
 use Rattle.html.proofs.TextLaws.{text-size, text-lists}

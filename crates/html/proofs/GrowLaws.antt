@@ -1,24 +1,25 @@
 -- How much each step adds to the output, in bytes.
 -- Assumes nothing.
-use Prim.Native.Nat.{ℕ, zero, suc, _+_, _-_, _*_, _/_, _%_, _^_, _≤_, _<_}
+use Prim.Native.Nat.{ℕ, zero, suc, _+_, _/_, _%_, _≤_, _<_}
 use native.Mathlib.Omega.{arith}
 use mathlib.Core.Path.{_≡_, refl, sym, ap, _∙_}
-use mathlib.Core.Bool.{Bool, true, false, _||_}
-use mathlib.Core.List.{List, [], _∷_, _++_, reverseAux}
+use mathlib.Core.Bool.{Bool, _||_}
+use mathlib.Core.List.{List, [], _∷_, reverseAux}
 use lib.Dec.{ltb, eqb}
 use lib.ListN.{length, replicate, length-replicate}
 use borrow.Author.Tests.{ltb-true}
 use Rattle.text.specs.Words.{if_then_else_, drop-while, is, is-empty, starts}
-use Rattle.text.specs.Utf8.{utf8, size}
+use Rattle.text.specs.Utf8.{size}
 use Rattle.text.specs.Decimal.{digits, decimal}
 use Rattle.text.proofs.Tests.{on}
 use Rattle.text.proofs.Utf8.{utf8-1}
-use Rattle.text.proofs.Laws.{utf8-size}
-use Rattle.text.proofs.AsciiLaws.{Ascii}
-use Rattle.html.specs.State.{State, with-out, push-str, line-start, block, newline, spaced, marks}
+use Rattle.text.proofs.Laws.{size-aux}
+use Rattle.text.proofs.AsciiLaws.{size-ascii, ascii-append}
+use Rattle.html.specs.State.{State, push-str, line-start, block, newline, spaced, marks}
 use Rattle.html.specs.Struct.{state-of, out-of}
+use Rattle.text.specs.Chars.{Ascii}
 use Rattle.html.specs.declared.Converter.{Converter}
-use Rattle.html.proofs.OutLaws.{size-out, size-aux}
+use Rattle.html.proofs.OutLaws.{size-out}
 
 -- how long the output is: by the state, and after a step that makes it at most k longer
 pub len-of : (r : Converter) (l w : List ℕ) (s : State) → state-of r l w ≡ s → r .len ≡ size (s .out)
@@ -30,15 +31,6 @@ pub grown : (f : State → State) (k : ℕ) → ((s : State) → size (f s .out)
 grown f k g a r w w' e = omega (arith, len-of r [] w' _ (e []), g (state-of a [] w), len-of a [] w _ refl)
 
 -- ---- texts
-pub size-ascii : (xs : List ℕ) → Ascii xs → size xs ≡ length xs
-unfolding size
-size-ascii [] h = refl
-size-ascii (x ∷ xs) h = omega (arith, ap length (utf8-1 x (h .0)), size-ascii xs (h .1))
-
-ascii-append : (xs ys : List ℕ) → Ascii xs → Ascii ys → Ascii (xs ++ ys)
-ascii-append [] ys p q = q
-ascii-append (x ∷ xs) ys p q = (p .0, ascii-append xs ys (p .1) q)
-
 digits-ascii : (k n : ℕ) → Ascii (digits k n)
 unfolding digits
 digits-ascii zero n = tt

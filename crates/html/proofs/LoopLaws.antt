@@ -1,25 +1,24 @@
 -- The loop over a page: its invariant, and what a turn does to it.
 -- Assumes nothing.
-use Prim.Native.Nat.{ℕ, zero, suc, _+_, _-_, _*_, _^_, _≤_, _<_}
+use Prim.Native.Nat.{ℕ, _+_, _*_, _^_, _≤_, _<_}
 use native.Mathlib.Omega.{arith}
 use mathlib.Core.Path.{_≡_, refl, sym, ap, _∙_, subst}
-use mathlib.Core.Bool.{Bool, true, false}
+use mathlib.Core.Bool.{true, false}
 use mathlib.Core.Option.{Option, some, none}
 use mathlib.Core.List.{List, [], _∷_}
 use lib.ListN.{length, getD, drop, length-drop}
-use Rattle.text.specs.Words.{if_then_else_, _>>=_}
-use Rattle.text.proofs.Laws.{size-chars}
+use Rattle.text.specs.Words.{_>>=_}
+use Rattle.text.proofs.Laws.{size-chars, scalars-drop}
 use Rattle.text.specs.Utf8.{Scalars, size, chars}
 use Rattle.html.specs.State.{State, new}
-use Rattle.html.specs.Page.{Turn, read, refused, turn, loop}
+use Rattle.html.specs.Page.{turn, loop}
 use Rattle.html.specs.Struct.{state-of, lists-of, number, turned, left}
 use Rattle.html.specs.declared.Converter.{Converter}
 use Rattle.html.specs.declared.Turned.{Turned}
 use Rattle.html.proofs.GrowLaws.{len-of}
 use Rattle.html.proofs.StepLaws.{depth-is, lists-is}
-use Rattle.html.proofs.TextLaws.{scalars-drop}
 use Rattle.html.proofs.FitLaws.{Fit, fit-new, fit-more, OnTurn, turn-fit}
-use Rattle.html.proofs.TurnLaws.{loop-left, loop-full, loop-end, Kept, kept}
+use Rattle.html.proofs.TurnLaws.{loop-left, loop-full, loop-end, kept}
 
 top : (m : ℕ) (l : List ℕ) → getD l 0 0 ≤ m → number l ≤ m
 unfolding number

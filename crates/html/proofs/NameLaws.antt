@@ -17,7 +17,7 @@ use borrow.Author.Tests.{eq-eqb, ne-eqb, eqb-true, ltb-true, ltb-false, le-leb, 
 use Rattle.text.specs.Words.{if_then_else_, case, str, all, same, lookup, take-while}
 use Rattle.text.specs.Chars.{within, is-alphanumeric, is-digit, to-lower}
 use Rattle.text.specs.Utf8.{chars}
-use Rattle.text.proofs.Tests.{same-true, decide, on, and-true, within-true, within-is, within-above, or-elim}
+use Rattle.text.proofs.Tests.{same-true, decide, on, and-true, within-true, within-is, within-above, or-elim, same-self}
 use Rattle.text.proofs.Laws.{chars-nil}
 use Rattle.text.proofs.AsciiLaws.{chars-ascii, chars-high}
 use Rattle.html.specs.State as state
@@ -224,10 +224,6 @@ module _ (s : List ℕ) (k i : ℕ) (t : Keyed s k i) where
         }
 
 -- ---- what a table says by that number
-same-self : (s : List ℕ) → same s s ≡ true
-same-self [] = refl
-same-self (c ∷ s) = rw (eq-eqb c c refl) (same-self s)
-
 same-key : (p n : List ℕ) → short p ≡ true → all-digits n ≡ true → same p n ≡ eqb (key p) (key n)
 same-key p n h k = go (same p n) refl
   where

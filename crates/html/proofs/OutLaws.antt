@@ -1,25 +1,26 @@
 -- The written part of a buffer, as characters: what one character more or less does to it, and what its last byte says of its last character.
 -- Assumes nothing.
-use Prim.Native.Nat.{ℕ, zero, suc, _+_, _-_, _*_, _≤_, _<_}
+use Prim.Native.Nat.{ℕ, zero, suc, _+_, _-_, _≤_, _<_}
 use native.Mathlib.Nat.{le-refl}
 use native.Mathlib.Omega.{arith}
 use native.Mathlib.Numerals.{add-one, sub-one}
 use mathlib.Core.Path.{_≡_, refl, sym, ap, ap₂, _∙_}
-use mathlib.Core.Bool.{Bool, true, false, _&&_}
-use mathlib.Core.Logic.{_⊎_, inl, inr, ⊎-elim}
+use mathlib.Core.Bool.{Bool, true, false, and-true as and-true-right}
+use mathlib.Core.Logic.{inl, ⊎-elim}
 use mathlib.Core.List.{List, [], _∷_, _++_, reverse, reverseAux, reverse-append, reverse-cons, reverse-reverse, append-nil, append-assoc}
 use lib.Dec.{ltb, eqb}
 use lib.ListN.{length, getD, set, take, drop, replicate, length-append, drop-of-length-le}
-use lib.Seq.{sets, length-sets, getD-set-same, getD-set-other, take-suc, take-at, drop-cons, length-take-le, take-all}
+use lib.Seq.{sets, length-sets, getD-set-same, getD-set-other, take-suc, take-at, drop-cons, length-take-le}
 use borrow.Author.Tests.{ltb-true, ltb-false, eq-eqb, ne-eqb, eqb-true, eqb-false}
 use Rattle.text.specs.Words.{drop-while, is, starts}
-use Rattle.text.specs.Chars.{is-digit}
-use Rattle.text.specs.Utf8.{IsScalar, utf8, encode, size, tail, chars}
-use Rattle.text.proofs.Tests.{decide, within-above, and-false}
+use Rattle.text.specs.Chars.{is-digit, Ascii}
+use Rattle.text.specs.Utf8.{IsScalar, utf8, encode, size, chars}
+use Rattle.text.proofs.Tests.{decide, and-false}
 use Rattle.text.proofs.Utf8.{utf8-1}
-use Rattle.text.proofs.Laws.{chars-nil, chars-utf8, chars-append, encode-chars, encode-append, utf8-lead, size-chars}
-use Rattle.text.proofs.AsciiLaws.{Ascii, chars-ascii}
+use Rattle.text.proofs.Laws.{chars-nil, chars-append, encode-chars, encode-append, utf8-lead, size-chars, chars-one, size-aux}
+use Rattle.text.proofs.AsciiLaws.{digit-high}
 use Rattle.text.proofs.PutLaws.{put-parts}
+use Rattle.text.proofs.Lists.{same-last}
 use Rattle.html.specs.State.{line-start, ends-with-digit}
 use Rattle.html.specs.Struct.{written, out-of}
 
@@ -45,9 +46,6 @@ written-last zero w h = absurd (omega arith)
 written-last (suc n) w h = rw sub-one refl
 
 -- ---- a character more
-chars-one : (c : ℕ) → IsScalar c → chars (utf8 c) ≡ c ∷ []
-chars-one c s = ap chars (sym (append-nil (utf8 c))) ∙ chars-utf8 c [] s ∙ rw chars-nil
-
 snoc-char : (xs : List ℕ) (c : ℕ) → IsScalar c → reverse (chars (xs ++ utf8 c)) ≡ c ∷ reverse (chars xs)
 snoc-char xs c s =
     ap reverse (chars-append xs (utf8 c) (utf8-lead c s) ∙ ap (λ (l : List ℕ). chars xs ++ l) (chars-one c s))
@@ -75,11 +73,6 @@ out-put n w c h s =
     ap (λ (x : List ℕ). reverse (chars x)) e ∙ snoc-char (written n w) c s
 
 -- ---- how many bytes there are
-pub size-aux : (xs o : List ℕ) → size (reverseAux xs o) ≡ size xs + size o
-unfolding size
-size-aux [] o = omega arith
-size-aux (x ∷ xs) o = omega (arith, size-aux xs (x ∷ o))
-
 pub size-out : (n : ℕ) (w : List ℕ) → size (out-of n w) ≡ n
 unfolding out-of size
 size-out n w =
@@ -99,12 +92,6 @@ pub record High (o : List ℕ) : Type 0 where
   pub before : List ℕ
   pub is : o ≡ last ∷ before
   pub high : 0x80 ≤ last
-
--- the last of a list and of another that is the same
-same-last : (xs ys : List ℕ) (a b : ℕ) → xs ++ (a ∷ []) ≡ ys ++ (b ∷ []) → a ≡ b
-same-last xs ys a b e =
-    let f : a ∷ reverse xs ≡ b ∷ reverse ys = sym (reverse-append xs (a ∷ [])) ∙ ap reverse e ∙ reverse-append ys (b ∷ []) in
-    cc
 
 high-of : (xs : List ℕ) (b : ℕ) (cs : List ℕ) → 0x80 ≤ b → encode (reverse cs) ≡ xs ++ (b ∷ []) → High cs
 high-of xs b [] h e = absurd (omega (arith, ap length e, length-append xs (b ∷ [])))
@@ -178,10 +165,6 @@ times-more w n b zero l h p e = absurd (omega arith)
 times-more w n b (suc k) l h p e = rw (out-push n w b h l, sub-one) e
 
 -- ---- what the output ends with
-and-true-right : (t : Bool) → t && true ≡ t
-and-true-right true = refl
-and-true-right false = refl
-
 feed-high : (d : ℕ) → 0x80 ≤ d → eqb d 10 ≡ false
 feed-high d h = ne-eqb d 10 (omega arith)
 
@@ -192,9 +175,6 @@ start-last n w h = last-test line-start (λ d. eqb d 10) (λ d o. and-true-right
 pub start-none : (n : ℕ) (w : List ℕ) → n ≡ 0 → true ≡ line-start (out-of n w)
 unfolding line-start
 start-none n w h = rw (out-none n w h)
-
-digit-high : (d : ℕ) → 0x80 ≤ d → is-digit d ≡ false
-digit-high d h = within-above 48 57 d (omega arith) (omega arith)
 
 pub digit-last : (n : ℕ) (w : List ℕ) → 0 < n → is-digit (getD w (n - 1) 0) ≡ ends-with-digit (out-of n w)
 unfolding ends-with-digit

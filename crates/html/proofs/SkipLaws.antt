@@ -1,18 +1,18 @@
 -- The cases of `element`, `inside` and `words`, by the code's enums.
 -- Assumes nothing.
-use Prim.Native.Nat.{ℕ, zero, suc, _+_, _-_, _≤_, _<_}
+use Prim.Native.Nat.{ℕ}
 use native.Mathlib.Omega.{arith}
 use mathlib.Core.Path.{_≡_, refl, sym, ap, _∙_, subst}
 use mathlib.Core.Bool.{Bool, true, false, not, _&&_, _||_}
-use mathlib.Core.Option.{Option, some, none}
+use mathlib.Core.Option.{some, none}
 use mathlib.Core.List.{List, [], _∷_}
 use lib.Dec.{eqb}
 use lib.ListN.{drop}
 use mir.Val.{boolByte}
-use Rattle.text.specs.Words.{if_then_else_, case, str, same, starts}
+use Rattle.text.specs.Words.{if_then_else_, str, same, starts}
 use Rattle.text.specs.Utf8.{chars}
 use Rattle.text.proofs.Tests.{same-true, and-true}
-use Rattle.text.proofs.AsciiLaws.{starts-chars}
+use Rattle.text.proofs.AsciiLaws.{starts-chars, drop-chars}
 use Rattle.html.specs.State.{State, with-skip, tag-of, text}
 use Rattle.html.specs.Page.{name-of, listed, shown, skipped, element, inside, words}
 use Rattle.html.specs.Struct.{skip-name, tag-means}
@@ -21,7 +21,6 @@ use Rattle.html.specs.declared.Skip.{Skip}
 use Rattle.html.specs.declared.Skip.the-variants.{Nothing, Script, Style}
 use Rattle.html.specs.declared.Tag.{Tag}
 use Rattle.html.proofs.NameLaws.{says-means, says-skip, name-chars}
-use Rattle.html.proofs.CloseLaws.{drop-chars}
 
 no : {X : Type 0} → _≡_ {A = ℕ} 0 1 → X
 no e = absurd (omega arith)

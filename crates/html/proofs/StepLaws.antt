@@ -1,14 +1,13 @@
 -- The cases of each step of `Converter`, and what a struct says of its open lists.
 -- Assumes nothing.
-use Prim.Native.Nat.{ℕ, zero, suc, _+_, _-_, _*_, _^_, _≤_, _<_}
+use Prim.Native.Nat.{ℕ, zero, suc, _+_, _-_, _*_, _≤_, _<_}
 use native.Mathlib.Nat.{le-refl}
 use native.Mathlib.Omega.{arith}
 use native.Mathlib.Numerals.{add-one, sub-one}
 use mathlib.Core.Path.{_≡_, refl, sym, ap, ap₂, _∙_}
-use mathlib.Core.Bool.{Bool, true, false, not, _||_}
-use mathlib.Core.Option.{Option, some, none}
+use mathlib.Core.Bool.{Bool, true, false, _||_}
+use mathlib.Core.Option.{some, none}
 use mathlib.Core.List.{List, [], _∷_, _++_, reverseAux, reverseAux-append, tail}
-use lib.Dec.{ltb, leb}
 use lib.ListN.{length, getD, set, replicate}
 use lib.Seq.{getD-set-same, getD-set-other}
 use borrow.Author.Tests.{le-leb, lt-leb}
@@ -17,9 +16,9 @@ use Rattle.text.specs.Utf8.{utf8, size}
 use Rattle.text.proofs.Utf8.{utf8-1}
 use Rattle.text.specs.Decimal.{decimal}
 use Rattle.text.proofs.Tests.{on}
-use Rattle.html.specs.State.{State, with-out, with-lists, with-pre, push-str, line-start, block, newline, spaced, marks, list-changed, item, tag, ul, ol, other, code, Tag}
+use Rattle.html.specs.State.{State, with-out, with-lists, push-str, line-start, block, newline, spaced, marks, list-changed, item, tag, ul, ol, other, code, Tag}
 use Rattle.html.specs.Page.{listed, is-list}
-use Rattle.html.specs.Struct.{state-of, out-of, upto, lists-of, number, with-space, unspaced, ended, list-tag, step-means}
+use Rattle.html.specs.Struct.{state-of, out-of, upto, lists-of, number, with-space, unspaced, list-tag, step-means}
 use Rattle.html.specs.declared.Converter.{Converter}
 use Rattle.html.specs.declared.Step.{Step}
 use Rattle.html.specs.declared.Step.the-variants.{Heading, Block, Pre, Break, Item, Row, Cell, Strong, Emphasis, Code, Other}

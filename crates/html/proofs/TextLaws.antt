@@ -1,31 +1,33 @@
 -- Text, character by character: which are escaped, what one more does to the state, and the turn of the loop over a text.
 -- Assumes nothing.
-use Prim.Native.Nat.{ℕ, zero, suc, _+_, _-_, _*_, _≤_, _<_}
+use Prim.Native.Nat.{ℕ, _+_, _-_, _*_, _≤_, _<_}
 use native.Mathlib.Omega.{arith}
 use native.Mathlib.Numerals.{add-one}
 use mathlib.Core.Path.{_≡_, refl, sym, ap, _∙_, subst}
 use mathlib.Core.Bool.{Bool, true, false, not, _&&_, _||_}
-use mathlib.Core.Logic.{_⊎_, inl, inr, ⊎-elim}
+use mathlib.Core.Logic.{inl, ⊎-elim}
 use mathlib.Core.Option.{Option, none, some}
-use mathlib.Core.List.{List, [], _∷_, _++_, reverseAux, append-cancel-left}
-use lib.Dec.{eqb, ltb}
+use mathlib.Core.List.{List, [], _∷_, _++_, reverseAux}
+use lib.Dec.{eqb}
 use lib.ListN.{length, getD, take, drop, drop-of-length-le}
 use lib.Seq.{take-suc, drop-cons}
-use borrow.Author.Tests.{eq-eqb, ne-eqb, eqb-true, ltb-true, ltb-false, lt-ltb, le-ltb}
-use Rattle.text.specs.Words.{if_then_else_, is, matches, str, drop-while}
+use borrow.Author.Tests.{eq-eqb, ne-eqb, eqb-true, ltb-true, lt-ltb, le-ltb}
+use Rattle.text.specs.Words.{if_then_else_, is, str, drop-while}
 use Rattle.text.specs.Chars.{within, is-ascii, is-space, is-alphanumeric}
-use Rattle.text.specs.Utf8.{IsScalar, Scalars, utf8, size, chars, code-at}
-use Rattle.text.proofs.Tests.{decide, on, false-true, or-elim, and-true, and-false, within-true, within-is, within-above, within-below, or-right}
+use Rattle.text.specs.Utf8.{Scalars, utf8, size, chars, code-at}
+use Rattle.text.proofs.Tests.{decide, on, false-true, or-elim, and-true, and-false, within-true, within-above}
 use Rattle.text.proofs.Utf8.{utf8-1}
 use Rattle.text.proofs.AsciiLaws.{chars-ascii}
-use Rattle.text.proofs.Laws.{turn-is, utf8-size, advance-end, advance-ascii}
+use Rattle.text.proofs.Laws.{turn-is, utf8-size, advance-end, advance-ascii, scalars-drop}
+use Rattle.text.proofs.TrimLaws.{space-ascii}
+use Rattle.text.proofs.Lists.{same-last}
 use Rattle.reference.specs.Unescape.{reference, unescape}
 use Rattle.reference.specs.Answers.{answer}
 use Rattle.reference.specs.declared.Ampersand.{Ampersand}
 use Rattle.reference.specs.declared.Ampersand.the-variants.{Replaced, Left}
-use Rattle.reference.proofs.Laws.{left-at, replaced-at, read-is, unescape-nil, unescape-other, unescape-size}
+use Rattle.reference.proofs.Laws.{left-at, replaced-at, read-is, unescape-nil, unescape-other, unescape-size, at-and}
 use Rattle.html.specs.State.{State, with-out, line-start, special, opens, ends-with-digit, escape, put, spaced, blank, paused, next, put-all, text}
-use Rattle.html.specs.Struct.{out-of, with-space}
+use Rattle.html.specs.Struct.{with-space}
 use Rattle.html.specs.Pen.{pen-state, ascii-space, Unescaped}
 use Rattle.html.specs.declared.words.Pen.{Pen}
 use Rattle.html.specs.declared.words.Piece.{Piece}
@@ -33,14 +35,6 @@ use Rattle.html.proofs.OutLaws.{size-out}
 use Rattle.html.proofs.StepLaws.{spaced-lists, spaced-with, pending}
 
 -- ---- which characters are escaped
-pub five : (a b c d e : Bool) → a || b || c || d || e ≡ a || (b || (c || (d || (e || false))))
-five true b c d e = refl
-five false true c d e = refl
-five false false true d e = refl
-five false false false true e = refl
-five false false false false true = refl
-five false false false false false = refl
-
 pub escape-special : (first : Bool) (x : ℕ) (o : List ℕ) → special x ≡ true → true ≡ escape first x o
 unfolding escape
 escape-special first x o e = rw e
@@ -273,11 +267,6 @@ unfolding put-all
 ink-done raw s t n out p i k h = sym (rw (advance-end raw i h, unescape-nil)) ∙ k .same
 
 -- ---- the character at an offset
-pub scalars-drop : (n : ℕ) (cs : List ℕ) → Scalars cs → Scalars (drop n cs)
-scalars-drop zero cs h = h
-scalars-drop (suc n) [] h = h
-scalars-drop (suc n) (c ∷ cs) h = scalars-drop n cs (h .1)
-
 is-left : (o : Option (ℕ × ℕ)) (r : Ampersand) → r ≡ answer o → r ≡ Left → o ≡ none
 is-left none r e h = refl
 is-left (some p) r e h = let y : _≡_ {A = ℕ} 0 1 = cc in absurd (omega arith)
@@ -294,15 +283,9 @@ abbrev pub piece : ℕ → ℕ → Piece
 piece c n = record { code = c; next = n }
 
 module _ (s : List ℕ) (i : ℕ) (l : i < length s) (h : Scalars (chars (drop i s))) where
-  abbrev tail-of : List ℕ
-  tail-of = chars (drop (i + 1) s)
-
   module _ (a : getD s i 0 ≡ 38) (r : Ampersand) (e : r ≡ answer (reference (chars (drop (i + 1) s)))) where
-    and-is : chars (drop i s) ≡ 38 ∷ chars (drop (i + 1) s)
-    and-is = advance-ascii s i l (omega arith) ∙ rw a
-
     and-tail : Scalars (chars (drop (i + 1) s))
-    and-tail = subst Scalars and-is h .1
+    and-tail = subst Scalars (at-and s i l a) h .1
 
     pub piece-left : r ≡ Left → Unescaped s i (piece 38 (i + 1))
     piece-left q =
@@ -337,10 +320,7 @@ module _ (s : List ℕ) (i : ℕ) (l : i < length s) (h : Scalars (chars (drop i
       let w = ap length (ap utf8 q ∙ utf8-1 38 (omega arith)) in
       let f : take (i + 1) s ≡ take i s ++ (38 ∷ []) =
       ap (λ (k : ℕ). take (i + k) s) (sym w) ∙ t .front ∙ ap (λ (x : List ℕ). take i s ++ x) (ap utf8 q ∙ utf8-1 38 (omega arith)) in
-      n (sym (last-of (take i s) (getD s i 0) 38 (sym (rw (add-one i) (take-suc s i 0 l)) ∙ f)) ∙ refl)
-    where
-      last-of : (xs : List ℕ) (a b : ℕ) → xs ++ (a ∷ []) ≡ xs ++ (b ∷ []) → b ≡ a
-      last-of xs a b e = let f = append-cancel-left xs (a ∷ []) (b ∷ []) e in cc
+      n (same-last (take i s) (take i s) (getD s i 0) 38 (sym (rw (add-one i) (take-suc s i 0 l)) ∙ f))
 
   pub piece-other : (c n : ℕ) → (getD s i 0 ≡ 38 → ⊥) → c ≡ code-at s i → n ≡ length (utf8 c) → Unescaped s i (piece c (i + n))
   piece-other c n k e f =
@@ -356,9 +336,6 @@ module _ (s : List ℕ) (i : ℕ) (l : i < length s) (h : Scalars (chars (drop i
       }
 
 -- ---- how much a text adds, and that it leaves the lists as they are
-size-low : (x : ℕ) → 1 ≤ length (utf8 x)
-size-low x = utf8-size x .0
-
 pause-most : (c : State) (b : Bool) → weight (with-out (c .out) b c) ≤ weight c + 1
 unfolding weight
 pause-most c b = omega (arith, pending-most b)
@@ -366,7 +343,7 @@ pause-most c b = omega (arith, pending-most b)
 next-weight : (first : Bool) (x : ℕ) (c : State) → weight (next first x c .1) ≤ weight c + 2 * length (utf8 x)
 unfolding next paused
 next-weight first x c =
-    let a = size-low x in
+    let a = utf8-size x .0 in
     on (λ (n : Bool × State). weight (n .1) ≤ weight c + 2 * length (utf8 x)) (blank (c .pre) x)
     (λ _. omega (arith, pause-most c (not (line-start (c .out)))))
     (λ _. omega (arith, put-weight first x (spaced c), spaced-weight c))
@@ -422,24 +399,11 @@ module _ (b : ℕ) (h : is-alphanumeric b ≡ true) where
   plain-not-and q = let p = plain-is b h in omega (arith, p .low)
 
   plain-not-space : is-space b ≡ false
-  unfolding is-space
   plain-not-space =
       let p = plain-is b h in
       let l = p .low in
       let u = p .high in
-      simp (
-        within-above 9 13 b (omega arith) (omega arith),
-        ne-eqb b 32 (omega arith),
-        ne-eqb b 133 (omega arith),
-        ne-eqb b 160 (omega arith),
-        ne-eqb b 5760 (omega arith),
-        within-below 8192 8202 b (omega arith),
-        ne-eqb b 8232 (omega arith),
-        ne-eqb b 8233 (omega arith),
-        ne-eqb b 8239 (omega arith),
-        ne-eqb b 8287 (omega arith),
-        ne-eqb b 12288 (omega arith),
-      )
+      space-ascii b (omega arith) ∙ rw (within-above 9 13 b (omega arith) (omega arith), ne-eqb b 32 (omega arith))
 
   pub plain-not-blank : (pre : Bool) → blank pre b ≡ false
   unfolding blank

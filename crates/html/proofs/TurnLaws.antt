@@ -5,61 +5,32 @@ use native.Mathlib.Omega.{arith}
 use native.Mathlib.Nat.{zero-add}
 use native.Mathlib.Numerals.{add-one, sub-one}
 use mathlib.Core.Path.{_≡_, refl, sym, ap, _∙_, subst}
-use mathlib.Core.Bool.{Bool, true, false, cond, _&&_}
-use mathlib.Core.Option.{Option, some, none}
-use mathlib.Core.List.{List, [], _∷_, _++_, append-nil}
-use lib.Dec.{eqb, ltb}
-use lib.ListN.{length, getD, take, drop, length-append, length-take, length-drop}
-use lib.Seq.{drop-cons, drop-drop, drop-append-seam, take-append-seam, drop-append-add, drop-length, take-length, take-all}
-use borrow.Author.Tests.{eqb-true, lt-ltb, le-ltb, ltb-true, ltb-false}
-use Rattle.text.specs.Words.{if_then_else_, _>>=_, case, str, starts-with, starts, index, find}
+use mathlib.Core.Bool.{Bool, true, false, cond}
+use mathlib.Core.Option.{Option, some, none, Option·some-injective}
+use mathlib.Core.List.{List, [], _∷_}
+use lib.Dec.{ltb}
+use lib.ListN.{length, getD, take, drop, length-take, length-drop}
+use lib.Seq.{drop-cons, drop-drop, drop-append-seam, drop-length, take-all}
+use borrow.Author.Tests.{lt-ltb, le-ltb, ltb-true, ltb-false}
+use Rattle.text.specs.Words.{if_then_else_, _>>=_, case, starts, index, find}
 use Rattle.text.specs.Utf8.{Scalars, encode, size, chars}
 use Rattle.text.specs.Trim.{trim}
-use Rattle.text.specs.Find.{found}
-use Rattle.text.specs.declared.Found.the-variants.{Here, Nowhere}
-use Rattle.text.proofs.Tests.{on}
-use Rattle.text.proofs.Laws.{size-chars, chars-nil, advance-end, encode-chars}
-use Rattle.text.proofs.AsciiLaws.{chars-ascii, starts-chars}
-use Rattle.text.proofs.FindLaws.{until, since, until-since, chars-until, chars-since, index-until, IsHere, found-here, found-nowhere}
+use Rattle.text.specs.Find.{found, until, since}
+use Rattle.text.specs.declared.Found.the-variants.{Nowhere}
+use Rattle.text.proofs.Tests.{on, starts-room}
+use Rattle.text.proofs.Laws.{size-chars, chars-nil, advance-end, scalars-split}
+use Rattle.text.proofs.AsciiLaws.{chars-ascii, starts-chars, drop-chars}
+use Rattle.text.proofs.FindLaws.{until-since, chars-until, chars-since, IsHere, found-nowhere, index-none, index-some, take-until, drop-until, since-head}
+use Rattle.text.proofs.TrimLaws.{chars-trim}
 use Rattle.html.specs.State.{State}
 use Rattle.html.specs.Page.{inside, words, Turn, read, refused, tag-read, comment, a-tag, markup, turn, on-turn, loop}
-use Rattle.html.specs.Struct.{state-of, tagged, turned, left, closed}
+use Rattle.html.specs.Struct.{state-of, tagged, left, closed}
 use Rattle.html.specs.declared.Tagged.{Tagged}
 use Rattle.html.specs.declared.Converter.{Converter}
 use Rattle.html.proofs.GrowLaws.{len-of}
 use Rattle.html.proofs.StepLaws.{lists-is, like}
 use Rattle.html.proofs.FitLaws.{words-size, words-lists}
-use Rattle.html.proofs.CloseLaws.{drop-chars, closed-chars, comment-left, chars-trim, starts-room}
-
--- ---- the first b of a text
-until-all : (b : ℕ) (s : List ℕ) → since b s ≡ [] → until b s ≡ s
-until-all b s e = sym (append-nil (until b s)) ∙ ap (λ (l : List ℕ). until b s ++ l) (sym e) ∙ until-since b s
-
-index-none : (b : ℕ) (s : List ℕ) → since b s ≡ [] → index (b ∷ []) s ≡ none
-index-none b s e =
-    let q = ap length (until-all b s e) in
-    index-until b s ∙ rw (le-ltb (length (until b s)) (length s) (omega arith))
-
-index-some : (b : ℕ) (s : List ℕ) → 0 < length (since b s) → index (b ∷ []) s ≡ some (length (until b s))
-index-some b s h =
-    let q = ap length (until-since b s) in
-    let l : length (until b s) < length s = omega (arith, length-append (until b s) (since b s)) in
-    index-until b s ∙ rw (lt-ltb (length (until b s)) (length s) l)
-
-take-until : (b : ℕ) (s : List ℕ) → take (length (until b s)) s ≡ until b s
-take-until b s = ap (take (length (until b s))) (sym (until-since b s)) ∙ take-append-seam (until b s) (since b s)
-
-drop-until : (b k : ℕ) (s : List ℕ) → drop (length (until b s) + k) s ≡ drop k (since b s)
-drop-until b k s = ap (drop (length (until b s) + k)) (sym (until-since b s)) ∙ drop-append-add (until b s) (since b s) k
-
-since-head : (b : ℕ) (s : List ℕ) → 0 < length (since b s) → getD (since b s) 0 0 ≡ b
-since-head b [] h = absurd (omega arith)
-since-head b (x ∷ s) h = go (since-head b s) (eqb x b) refl h
-  where
-    go : (0 < length (since b s) → getD (since b s) 0 0 ≡ b) → (t : Bool) → eqb x b ≡ t → 0 < length (cond t (x ∷ s) (since b s))
-        → getD (cond t (x ∷ s) (since b s)) 0 0 ≡ b
-    go ih true e h = eqb-true x b e
-    go ih false e h = ih h
+use Rattle.html.proofs.CloseLaws.{closed-chars, comment-left}
 
 -- ---- the cases of a turn, in characters
 abbrev tag-left : List ℕ → Option State → Option (List ℕ × State)
@@ -223,13 +194,8 @@ turned-tag t m w l = go (t .ok)
     go true = refl
     go false = refl
 
--- the text before it
-pub scalars-left : (xs ys : List ℕ) → Scalars (xs ++ ys) → Scalars xs
-scalars-left [] ys h = tt
-scalars-left (x ∷ xs) ys h = (h .0, scalars-left xs ys (h .1))
-
 pub scalars-until : (b : ℕ) (s : List ℕ) → Scalars s → Scalars (until b s)
-scalars-until b s h = scalars-left (until b s) (since b s) (subst Scalars (sym (until-since b s)) h)
+scalars-until b s h = scalars-split (until b s) (since b s) (subst Scalars (sym (until-since b s)) h) .0
 
 -- ---- the loop
 loop-drop : (n : ℕ) (s : List ℕ) (c : State) → loop n s c ≡ loop 0 (drop n s) c
@@ -293,16 +259,13 @@ pub record Kept (s l : List ℕ) (c d : State) : Type 0 where
   pub is : turn s c ≡ read count d
   pub rest : drop count s ≡ l
 
-some-same : {x y : List ℕ × State} → some x ≡ some y → x ≡ y
-some-same e = cc
-
 pub kept : (s l : List ℕ) (c d : State) → some (l, d) ≡ left s (turn s c) → Kept s l c d
 kept s l c d e = go (turn s c) refl e
   where
     go : (t : Turn) → turn s c ≡ t → some (l, d) ≡ left s t → Kept s l c d
     go refused q e = absurd (let z : _≡_ {A = ℕ} 0 1 = cc in omega arith)
     go (read n d') q e =
-        let f : _≡_ {A = List ℕ × State} (l, d) (drop n s, d') = some-same e in
+        let f : _≡_ {A = List ℕ × State} (l, d) (drop n s, d') = Option·some-injective _ _ e in
         record { count = n; is = q ∙ ap (read n) (sym (ap (λ (p : List ℕ × State). p .1) f)); rest = sym (ap (λ (p : List ℕ × State). p .0) f) }
 
 -- ---- what a call has to know of the parts of a page

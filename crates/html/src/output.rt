@@ -6,7 +6,7 @@ ghost use lib.ListN.{length, replicate};
 ghost use Rattle.text.specs.Words.{is, starts, drop-while};
 ghost use Rattle.text.specs.Utf8.{IsScalar, utf8, code-at};
 ghost use Rattle.text.specs.Decimal.{decimal};
-ghost use Rattle.text.proofs.AsciiLaws.{Ascii};
+ghost use Rattle.text.specs.Chars.{Ascii};
 ghost use Rattle.html.specs.State.{line-start, ends-with-digit};
 ghost use Rattle.html.specs.Pen.{AboveAscii};
 ghost use Rattle.html.specs.Struct.{out-of, with-space};

@@ -16,8 +16,8 @@ ghost use Prim.Native.Nat.{ℕ, _+_, _^_, _≤_, _<_, min};
 ghost use mathlib.Core.Bool.{Bool, true, false};
 ghost use mathlib.Core.List.{List, _∷_, tail};
 ghost use lib.ListN.{length};
-ghost use Rattle.text.proofs.AsciiLaws.{Ascii};
 ghost use Rattle.html.specs.State.{block, newline, marks, list-changed, item, tag, with-lists, heading, pre, br, li, tr, cell, code};
+ghost use Rattle.text.specs.Chars.{Ascii};
 ghost use Rattle.html.specs.Page.{listed};
 ghost use Rattle.html.specs.Struct.{state-of, lists-of, number, step-means, tag-means, tagged, ended, list-tag};
 

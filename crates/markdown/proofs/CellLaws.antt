@@ -1,7 +1,7 @@
 -- The laws of `row`: one pass does what the two replacements do, and the same of bytes as of characters.
 -- Assumes nothing.
 use Prim.Native.Nat.{ℕ, zero, suc, _≤_, _<_}
-use mathlib.Core.Bool.{Bool, true, false, cond}
+use mathlib.Core.Bool.{Bool, true, false, cond, and-true as and-true-right}
 use mathlib.Core.List.{List, [], _∷_, _++_, reverse, reverse-cons, reverse-append, reverse-reverse}
 use mathlib.Core.Logic.{inl, ⊎-elim}
 use mathlib.Core.Path.{_≡_, refl, sym, ap, _∙_}
@@ -13,9 +13,11 @@ use lib.Seq.{take-length, take-suc}
 use Rattle.text.specs.Words.{if_then_else_, starts, starts-with, drop-while, take-while, trim-end-matches, trim-matches}
 use Rattle.text.specs.Utf8.{Scalars, utf8, encode, chars}
 use Rattle.text.specs.Trim.{trim}
-use Rattle.text.proofs.Tests.{decide, on, and-true, within-below, and-true-right}
-use Rattle.text.proofs.Laws.{utf8-ascii, chars-nil, chars-append, chars-encode, encode-chars, encode-append, scalars-append}
-use Rattle.text.proofs.AsciiLaws.{Ascii, chars-ascii}
+use Rattle.text.proofs.Tests.{decide, on, and-true, within-below}
+use Rattle.text.proofs.Laws.{chars-nil, chars-append, chars-encode, encode-chars, encode-append, scalars-append}
+use Rattle.text.proofs.AsciiLaws.{chars-ascii}
+use Rattle.text.specs.Chars.{Ascii}
+use Rattle.text.proofs.Utf8.{utf8-1}
 use Rattle.markdown.specs.Blocks.{replace, row}
 use Rattle.markdown.specs.Cells.{cells, dot, dot-bytes}
 use Rattle.markdown.proofs.Basics.{last-of}
@@ -87,7 +89,7 @@ cells-encode (suc k) (c ∷ cs) l h =
     (λ e.
     let p = and-true (eqb c 32) (starts-with (124 ∷ 32 ∷ []) cs) e in
     let q = eqb-true c 32 (p .0) in
-    let u = utf8-ascii c (omega arith) in
+    let u = utf8-1 c (omega arith) in
     let f : starts " | " (c ∷ encode cs) ≡ true = (rw u at (starts-encode (32 ∷ 124 ∷ 32 ∷ []) (c ∷ cs) ascii-bar h)) ∙ e in
     let g : drop 2 (encode cs) ≡ encode (drop 2 cs) = drop-encode (124 ∷ 32 ∷ []) cs (omega arith, (omega arith, tt)) (p .1) in
     let ih = cells-encode k (drop 2 cs) (rw (length-drop 2 cs) (omega arith)) (scalars-drop 2 cs (h .1)) in
@@ -105,7 +107,7 @@ cells-encode (suc k) (c ∷ cs) l h =
     ⊎-elim
     (λ b.
     let q = eqb-true c 124 b in
-    let u = utf8-ascii c (omega arith) in
+    let u = utf8-1 c (omega arith) in
     let f : starts " | " (c ∷ encode cs) ≡ false = (rw u at (starts-encode (32 ∷ 124 ∷ 32 ∷ []) (c ∷ cs) ascii-bar h)) ∙ e in
     let m = cells-bar dot c cs e q in (
       ap (λ (x : List ℕ). cells dot-bytes 0 (x ++ encode cs)) u
@@ -120,7 +122,7 @@ cells-encode (suc k) (c ∷ cs) l h =
     let m = cells-kept dot c cs e n in (
       ⊎-elim
           (λ v.
-          let u = utf8-ascii c (ltb-true c 0x80 v) in
+          let u = utf8-1 c (ltb-true c 0x80 v) in
           let f : starts " | " (c ∷ encode cs) ≡ false = (rw u at (starts-encode (32 ∷ 124 ∷ 32 ∷ []) (c ∷ cs) ascii-bar h)) ∙ e in
           ap (λ (x : List ℕ). cells dot-bytes 0 (x ++ encode cs)) u
           ∙ cells-kept dot-bytes c (encode cs) f n
@@ -172,7 +174,7 @@ module _ (x : ℕ) (low : x < 0x80) where
       (λ s.
       let r = eqb-true c x s in
       let t : xs ++ (b ∷ []) ≡ encode ds ++ (x ∷ []) =
-      sym (encode-chars (xs ++ (b ∷ []))) ∙ ap encode q ∙ encode-append ds (c ∷ []) ∙ rw (r, utf8-ascii x low)
+      sym (encode-chars (xs ++ (b ∷ []))) ∙ ap encode q ∙ encode-append ds (c ∷ []) ∙ rw (r, utf8-1 x low)
       in absurd (n (same-last xs (encode ds) b x t)))
       (λ s. rw q (end-snoc p ds c ∙ rw s))
       (decide (eqb c x)))

@@ -14,8 +14,10 @@ use lib.Seq.{drop-drop, drop-append-seam}
 use Rattle.text.specs.Words.{if_then_else_, _>>=_, case, str, starts-with, starts, index}
 use Rattle.text.specs.Utf8.{IsScalar, Scalars, utf8, encode, chars, is-utf8}
 use Rattle.text.proofs.Tests.{decide, on, and-true}
-use Rattle.text.proofs.Laws.{Tails, Long, utf8-long, utf8-ascii, chars-encode, encode-chars, encode-append, scalars-true}
-use Rattle.text.proofs.AsciiLaws.{Ascii, encode-ascii, starts-chars}
+use Rattle.text.proofs.Laws.{Tails, Long, utf8-long, chars-encode, encode-chars, encode-append, scalars-true}
+use Rattle.text.proofs.AsciiLaws.{encode-ascii, starts-chars}
+use Rattle.text.specs.Chars.{Ascii}
+use Rattle.text.proofs.Utf8.{utf8-1}
 use Rattle.markdown.specs.Blocks.{comment, cleaned}
 use Rattle.markdown.specs.Parts.{from, past}
 
@@ -122,7 +124,7 @@ module _ (d : ℕ) (p : List ℕ) (a : Ascii (d ∷ p)) where
   from-encode (c ∷ cs) h =
       ⊎-elim
       (λ l.
-      let u = utf8-ascii c (ltb-true c 0x80 l) in
+      let u = utf8-1 c (ltb-true c 0x80 l) in
       let q : starts-with (d ∷ p) (c ∷ encode cs) ≡ starts-with (d ∷ p) (c ∷ cs) = rw u at (starts-encode (d ∷ p) (c ∷ cs) a h) in
       rw (u, q)
       (on (λ (l : List ℕ). cond (starts-with (d ∷ p) (c ∷ cs)) (c ∷ encode cs) (from (d ∷ p) (encode cs)) ≡ encode l) (starts-with (d ∷ p) (c ∷ cs))
@@ -189,7 +191,7 @@ cleaned-encode (suc k) (c ∷ cs) l h =
     ⊎-elim
     (λ e.
     let q = eqb-true c 60 (and-true (eqb c 60) (starts-with (33 ∷ 45 ∷ 45 ∷ []) cs) e .0) in
-    let u = utf8-ascii c (omega arith) in
+    let u = utf8-1 c (omega arith) in
     let f : starts "<!--" (c ∷ encode cs) ≡ true = (rw u at (starts-encode opening (c ∷ cs) ascii-opening h)) ∙ e in
     let g : past (c ∷ encode cs) ≡ encode (past (c ∷ cs)) = rw u at (past-encode (c ∷ cs) h) in
     let ih = cleaned-encode k (past (c ∷ cs)) (omega (arith, past-le c cs)) (scalars-drop 3 (from closing (c ∷ cs)) (scalars-from closing (c ∷ cs) h)) in (
@@ -205,7 +207,7 @@ cleaned-encode (suc k) (c ∷ cs) l h =
     let m = other-stays c cs e in (
       ⊎-elim
           (λ v.
-          let u = utf8-ascii c (ltb-true c 0x80 v) in
+          let u = utf8-1 c (ltb-true c 0x80 v) in
           let f : starts "<!--" (c ∷ encode cs) ≡ false = (rw u at (starts-encode opening (c ∷ cs) ascii-opening h)) ∙ e in
           ap (cleaned 0) (ap (λ (x : List ℕ). x ++ encode cs) u)
           ∙ other-stays c (encode cs) f

@@ -9,13 +9,14 @@ use borrow.Author.Tests.{eqb-true}
 use lib.Dec.{eqb}
 use lib.ListN.{drop}
 use Rattle.text.specs.Utf8.{chars}
-use Rattle.text.proofs.FindLaws.{until, since, chars-until, chars-since}
+use Rattle.text.proofs.FindLaws.{chars-until, chars-since}
 use Rattle.text.proofs.Laws.{chars-nil}
 use Rattle.text.proofs.AsciiLaws.{chars-ascii}
 use Rattle.text.proofs.Tests.{on}
 use Rattle.records.specs.Blocks.{Block}
 use Rattle.markdown.specs.Blocks.{Reader, reader, flush, lines, before-lines, read-line, read-lines}
 use Rattle.text.specs.Words.{drop-while, trim-end-matches}
+use Rattle.text.specs.Find.{until, since}
 
 -- what stands after the first line
 abbrev pub after : List ℕ → List ℕ

@@ -9,7 +9,8 @@ use lib.ListN.{length, take, drop, drop-of-length-le}
 use lib.Seq.{sets}
 use Rattle.text.specs.Utf8.{Scalars, chars, is-utf8}
 use Rattle.text.proofs.Laws.{chars-nil, chars-append}
-use Rattle.text.proofs.FindLaws.{until, since, until-since, since-lead}
+use Rattle.text.proofs.FindLaws.{until-since, since-lead}
+use Rattle.text.specs.Find.{until, since}
 use Rattle.records.specs.Blocks.{Block}
 use Rattle.records.specs.Format.{encode-blocks}
 use Rattle.markdown.specs.Blocks.{Reader, reader, flush, cleaned, read-line, blocks}

@@ -10,11 +10,11 @@ use native.Mathlib.Omega.{arith}
 use lib.Dec.{eqb, ltb}
 use lib.ListN.{length, getD, take, drop, length-drop, drop-of-length-le}
 use Rattle.text.specs.Words.{is-empty, all, matches, starts-with, take-while, drop-while}
-use Rattle.text.specs.Chars.{is-digit}
+use Rattle.text.specs.Chars.{is-digit, Ascii}
 use Rattle.text.specs.Utf8.{chars}
 use Rattle.text.proofs.Tests.{decide, on}
 use Rattle.text.proofs.Laws.{chars-nil}
-use Rattle.text.proofs.AsciiLaws.{Ascii, chars-ascii, chars-high}
+use Rattle.text.proofs.AsciiLaws.{chars-ascii, chars-high}
 use Rattle.markdown.proofs.CommentLaws.{starts-split}
 use Rattle.markdown.proofs.Reading.{drop-next}
 use lib.Seq.{drop-append-seam}

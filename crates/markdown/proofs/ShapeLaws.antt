@@ -1,7 +1,7 @@
 -- The laws of headings, list markers and the order of the tests on a line, on the line's bytes.
 -- Assumes nothing.
 use Prim.Native.Nat.{ℕ, suc, _+_, _-_, _/_, _≤_, _<_, min}
-use mathlib.Core.Bool.{true, false, _&&_, _||_}
+use mathlib.Core.Bool.{true, false, _&&_, _||_, and-true as and-true-right}
 use mathlib.Core.Option.{none, some}
 use mathlib.Core.List.{List, [], _∷_, _++_}
 use mathlib.Core.Path.{_≡_, refl, sym, ap, _∙_}
@@ -11,12 +11,12 @@ use lib.Dec.{eqb, leb}
 use lib.ListN.{length, getD, take, drop, length-append, length-drop}
 use lib.Seq.{drop-drop}
 use Rattle.text.specs.Words.{if_then_else_, case, str, starts, starts-with, is-empty, take-while, drop-while}
-use Rattle.text.specs.Chars.{within, is-digit, is-space}
+use Rattle.text.specs.Chars.{within, is-digit, is-space, Ascii}
 use Rattle.text.specs.Utf8.{encode, size, chars}
 use Rattle.text.specs.Trim.{trim, start-of}
-use Rattle.text.proofs.Tests.{or-elim, and-false, within-is, within-below, within-above, and-true-right}
+use Rattle.text.proofs.Tests.{or-elim, and-false, within-is, within-below, within-above}
 use Rattle.text.proofs.Laws.{chars-nil, encode-chars, encode-append, size-encode}
-use Rattle.text.proofs.AsciiLaws.{Ascii, starts-chars}
+use Rattle.text.proofs.AsciiLaws.{starts-chars}
 use Rattle.text.proofs.TrimLaws.{drop-start, chars-start, start-le}
 use Rattle.records.specs.Blocks.{Heading, Paragraph, Item}
 use Rattle.spans.specs.Spans.{spans}

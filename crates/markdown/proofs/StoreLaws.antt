@@ -12,10 +12,10 @@ use native.Mathlib.Omega.{arith}
 use lib.ListN.{length, length-append}
 use lib.Seq.{sets}
 use Rattle.text.specs.Words.{all}
-use Rattle.text.specs.Chars.{is-digit}
+use Rattle.text.specs.Chars.{is-digit, Ascii}
 use Rattle.text.specs.Utf8.{utf8, size, encode, chars}
 use Rattle.text.proofs.Tests.{decide, on, and-true, within-true}
-use Rattle.text.proofs.AsciiLaws.{Ascii, encode-ascii}
+use Rattle.text.proofs.AsciiLaws.{encode-ascii}
 use Rattle.text.proofs.Laws.{size-encode}
 use Rattle.markdown.specs.Shape.{mark, item-bits}
 use Rattle.records.specs.Blocks.{Span, item, Block, Item}

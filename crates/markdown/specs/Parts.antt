@@ -6,7 +6,7 @@ use mathlib.Core.List.{List, [], _∷_, _++_}
 use mathlib.Core.Path.{_≡_}
 use lib.ListN.{length, take, drop}
 use Rattle.text.specs.Words.{str, starts-with}
-use Rattle.text.proofs.FindLaws.{until, since}
+use Rattle.text.specs.Find.{until, since}
 use Rattle.markdown.specs.Blocks.{cleaned}
 use Rattle.markdown.specs.declared.lines.Line.{Line}
 

@@ -14,7 +14,8 @@ use Rattle.text.specs.Utf8.{IsScalar, Scalars, utf8, encode, size, chars, is-ut
 use Rattle.text.proofs.Tests.{and-true}
 use Rattle.text.proofs.Utf8.{utf8-1, utf8-2, utf8-3, utf8-4, ranges, top}
 use Rattle.text.proofs.Laws.{encode-chars, chars-encode, scalars-true, scalars-is}
-use Rattle.text.proofs.AsciiLaws.{Ascii, encode-ascii}
+use Rattle.text.proofs.AsciiLaws.{encode-ascii}
+use Rattle.text.specs.Chars.{Ascii}
 use Rattle.records.specs.Decode.{Bytes}
 
 -- two tests that hold of the same are the same

@@ -2,45 +2,29 @@
 -- Assumes nothing.
 use Prim.Native.Nat.{ℕ, _+_, _*_, _≤_, _<_}
 use mathlib.Core.Bool.{Bool, true, false, _||_, not}
-use mathlib.Core.List.{List, [], _∷_, _++_}
+use mathlib.Core.List.{List, [], _∷_}
 use mathlib.Core.Logic.{⊎-elim}
 use mathlib.Core.Option.{Option, none, some}
 use mathlib.Core.Path.{_≡_, refl, sym, ap, _∙_, subst}
-use borrow.Author.Tests.{ltb-true, lt-ltb}
+use borrow.Author.Tests.{ltb-true}
 use native.Mathlib.Omega.{arith}
 use lib.Dec.{ltb}
 use lib.ListN.{length, drop}
 use Rattle.text.specs.Words.{if_then_else_, _>>=_, ensure, is-empty, all, str, starts-with, starts}
-use Rattle.text.specs.Chars.{within, is-digit}
+use Rattle.text.specs.Chars.{within, is-digit, is-ascii, Ascii}
 use Rattle.text.specs.Utf8.{chars}
-use Rattle.text.proofs.Tests.{decide, on, and-true, within-true}
-use Rattle.text.proofs.Laws.{chars-nil, encode-chars}
-use Rattle.text.proofs.AsciiLaws.{Ascii, chars-ascii, encode-ascii}
+use Rattle.text.proofs.Tests.{decide, on, within-true, then-some, ensure-some, starts-split}
+use Rattle.text.proofs.Laws.{encode-chars}
+use Rattle.text.proofs.AsciiLaws.{encode-ascii, chars-same, ascii-append, ascii-true, ascii-is}
 use Rattle.reference.specs.Unescape.{digit, digits, from-str-radix, named}
 use Rattle.reference.specs.Answers.{some-digits, written}
-use Rattle.reference.proofs.NameLaws.{Word, amp, lt, gt, quot, apos, nbsp, spelling, Kind, word, other, kind, named-other, plain, number-written, then-some, ensure-some, starts-split}
+use Rattle.reference.proofs.NameLaws.{Word, amp, lt, gt, quot, apos, nbsp, spelling, Kind, word, other, kind, named-other, plain, number-written}
 use Rattle.reference.proofs.DigitLaws.{from-plus, from-other}
 
--- ---- ASCII as a test
-abbrev low : ℕ → Bool
-low c = ltb c 0x80
-
-ascii-true : (s : List ℕ) → all low s ≡ true → Ascii s
-ascii-true [] e = tt
-ascii-true (c ∷ s) e = let p = and-true (low c) (all low s) e in (ltb-true c 0x80 (p .0), ascii-true s (p .1))
-
-ascii-is : (s : List ℕ) → Ascii s → all low s ≡ true
-ascii-is [] h = refl
-ascii-is (c ∷ s) h = simp (lt-ltb c 0x80 (h .0), ascii-is s (h .1))
-
-pub chars-all : (s : List ℕ) → Ascii s → chars s ≡ s
-chars-all [] h = chars-nil
-chars-all (c ∷ s) h = chars-ascii c s (h .0) ∙ ap (λ (l : List ℕ). c ∷ l) (chars-all s (h .1))
-
 -- ---- digits are ASCII
-digit-low : (c : ℕ) → digit c < 16 → c < 0x80
+digit-ascii : (c : ℕ) → digit c < 16 → c < 0x80
 unfolding digit
-digit-low c =
+digit-ascii c =
     let P : ℕ → Type 0 = λ (d : ℕ). d < 16 → c < 0x80 in
     on P (is-digit c) (λ e _. omega (arith, within-true 48 57 c e)) (λ _.
     on P (within 97 102 c) (λ e _. omega (arith, within-true 97 102 c e)) (λ _.
@@ -50,23 +34,20 @@ digits-ascii : (radix v : ℕ) (s : List ℕ) (n : ℕ) → radix ≤ 16 → dig
 unfolding digits
 digits-ascii radix v [] n l e = tt
 digits-ascii radix v (c ∷ s) n l e =
-    let p = ensure-some (ltb (digit c) radix) (digits radix (v * radix + digit c) s) n e in
+    let p = ensure-some (ltb (digit c) radix) (digits radix (v * radix + digit c) s) e in
     let h = ltb-true (digit c) radix (p .0) in
-    (digit-low c (omega arith), digits-ascii radix (v * radix + digit c) s n l (p .1))
+    (digit-ascii c (omega arith), digits-ascii radix (v * radix + digit c) s n l (p .1))
 
 some-digits-ascii : (radix : ℕ) (s : List ℕ) (n : ℕ) → radix ≤ 16 → some-digits radix s ≡ some n → Ascii s
 unfolding some-digits
-some-digits-ascii radix s n l e = digits-ascii radix 0 s n l (ensure-some (not (is-empty s)) (digits radix 0 s) n e .1)
+some-digits-ascii radix s n l e = digits-ascii radix 0 s n l (ensure-some (not (is-empty s)) (digits radix 0 s) e .1)
 
 -- ASCII before ASCII
 after : (p s : List ℕ) → Ascii p → starts-with p s ≡ true → Ascii (drop (length p) s) → Ascii s
-after p s a e b = subst Ascii (sym (starts-split p s e)) (joined p (drop (length p) s) a b)
-  where
-    joined : (x y : List ℕ) → Ascii x → Ascii y → Ascii (x ++ y)
-    joined [] y g h = h
-    joined (c ∷ x) y g h = (g .0, joined x y (g .1) h)
+after p s a e b = subst Ascii (sym (starts-split p s e)) (ascii-append p (drop (length p) s) a b)
 
 from-ascii : (radix : ℕ) (s : List ℕ) (n : ℕ) → radix ≤ 16 → from-str-radix radix s ≡ some n → Ascii s
+unfolding is-ascii
 from-ascii radix s n l e =
     ⊎-elim
     (λ t. after (str "+") s (ascii-true (str "+") refl) t (some-digits-ascii radix (drop 1 s) n l (sym (from-plus radix s 0 t) ∙ e)))
@@ -74,7 +55,7 @@ from-ascii radix s n l e =
     (decide (starts "+" s))
 
 written-ascii : (s : List ℕ) (n : ℕ) → written s ≡ some n → Ascii s
-unfolding written
+unfolding written is-ascii
 written-ascii s n e = by (starts "#" s) (starts "#x" s) (starts "#X" s) refl refl refl e
   where
     by : (a b c : Bool) → starts "#" s ≡ a → starts "#x" s ≡ b → starts "#X" s ≡ c
@@ -85,7 +66,8 @@ written-ascii s n e = by (starts "#" s) (starts "#x" s) (starts "#X" s) refl ref
     by true false false p q r f = after (str "#") s (ascii-true (str "#") refl) p (from-ascii 10 (drop 1 s) n (omega arith) f)
 
 -- ---- and so are names
-word-ascii : (k : Word) → all low (str (spelling k)) ≡ true
+word-ascii : (k : Word) → all is-ascii (str (spelling k)) ≡ true
+unfolding is-ascii
 word-ascii amp = refl
 word-ascii lt = refl
 word-ascii gt = refl
@@ -98,13 +80,13 @@ named-ascii u c e = by (kind u)
   where
     by : Kind u → Ascii u
     by (word k q) = rw q (ascii-true (str (spelling k)) (word-ascii k))
-    by (other h) = written-ascii u _ (then-some (written u) plain c (sym (number-written u) ∙ sym (named-other u h) ∙ e) .1)
+    by (other h) = written-ascii u _ (then-some (written u) plain (sym (number-written u) ∙ sym (named-other u h) ∙ e) .1)
 
 -- ---- a name in bytes and in characters: what it stands for, and how long it is
 abbrev pub sized : List ℕ → Option (ℕ × ℕ)
 sized u = named u >>= λ c. some (c, length u + 1)
 
-not-ascii : (u : List ℕ) → all low u ≡ false → named u ≡ none
+not-ascii : (u : List ℕ) → all is-ascii u ≡ false → named u ≡ none
 not-ascii u n = by (named u) refl
   where
     by : (o : Option ℕ) → named u ≡ o → named u ≡ none
@@ -112,19 +94,19 @@ not-ascii u n = by (named u) refl
     by (some c) e = let h = ascii-is u (named-ascii u c e) in cc
 
 -- the characters of other bytes are not ASCII either
-chars-low : (u : List ℕ) → all low u ≡ false → all low (chars u) ≡ false
-chars-low u n = by (all low (chars u)) refl
+chars-other : (u : List ℕ) → all is-ascii u ≡ false → all is-ascii (chars u) ≡ false
+chars-other u n = by (all is-ascii (chars u)) refl
   where
-    by : (t : Bool) → all low (chars u) ≡ t → all low (chars u) ≡ false
+    by : (t : Bool) → all is-ascii (chars u) ≡ t → all is-ascii (chars u) ≡ false
     by false e = e
     by true e =
         let q : u ≡ chars u = sym (encode-chars u) ∙ encode-ascii (chars u) (ascii-true (chars u) e) in
-        let r = ap (all low) q in
+        let r = ap (all is-ascii) q in
         cc
 
 pub sized-chars : (u : List ℕ) → sized (chars u) ≡ sized u
 sized-chars u =
     ⊎-elim
-    (λ e. rw (chars-all u (ascii-true u e)))
-    (λ e. rw (not-ascii u e, not-ascii (chars u) (chars-low u e)))
-    (decide (all low u))
+    (λ e. rw (chars-same u (ascii-true u e)))
+    (λ e. rw (not-ascii u e, not-ascii (chars u) (chars-other u e)))
+    (decide (all is-ascii u))

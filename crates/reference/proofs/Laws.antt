@@ -3,27 +3,26 @@
 use Prim.Native.Nat.{ℕ, zero, suc, _+_, _≤_, _<_}
 use mathlib.Core.Bool.{Bool, true, false, _&&_, _||_, not}
 use mathlib.Core.List.{List, [], _∷_, _++_}
-use mathlib.Core.Option.{Option, none, some}
+use mathlib.Core.Option.{Option, none, some, Option·some-injective}
 use mathlib.Core.Path.{_≡_, refl, sym, ap, _∙_, subst}
-use borrow.Author.Tests.{leb-true, not-true}
 use native.Mathlib.Omega.{arith}
 use lib.Dec.{leb, eqb}
 use lib.ListN.{length, getD, take, drop, length-append, length-take, length-drop, take-append-drop}
-use lib.Seq.{take-append-add, drop-append-add, drop-drop}
+use lib.Seq.{drop-append-add, drop-drop}
 use Rattle.text.specs.Words.{if_then_else_, case, str, is, starts, index}
 use Rattle.text.specs.Chars.{is-scalar, is-control}
 use Rattle.text.specs.Utf8.{IsScalar, utf8, size, chars}
-use Rattle.text.proofs.Tests.{on, and-true}
+use Rattle.text.proofs.Tests.{on, and-true, then-some, ensure-some}
 use Rattle.text.proofs.Laws.{scalar-true, utf8-size, advance-ascii, size-append, size-length}
-use Rattle.text.proofs.AsciiLaws.{Ascii}
+use Rattle.text.proofs.AsciiLaws.{chars-same}
 use Rattle.reference.specs.Unescape.{from-str-radix, names, named, reference, unescaped, unescape}
 use Rattle.reference.specs.Answers.{written}
 use Rattle.reference.proofs.SplitLaws.{Without, First, missing, here, first, chars-here}
-use Rattle.reference.proofs.NameLaws.{Word, amp, lt, gt, quot, apos, nbsp, spelling, meant, Kind, word, other, kind, named-word, named-other, plain, number-written, then-some, ensure-some}
-use Rattle.reference.proofs.AsciiNames.{named-ascii, sized, chars-all}
+use Rattle.reference.proofs.NameLaws.{Word, amp, lt, gt, quot, apos, nbsp, spelling, meant, Kind, word, other, kind, named-word, named-other, plain, number-written}
+use Rattle.reference.proofs.AsciiNames.{named-ascii, sized}
 use Rattle.reference.proofs.StepLaws.{reference-missing, reference-here, bytes-missing, bytes-here}
 
--- ---- the character is a scalar value and no control
+-- ---- the character is a scalar value
 word-plain : (k : Word) → is-scalar (meant k) && not (is-control (meant k)) ≡ true
 unfolding is-scalar is-control
 word-plain amp = refl
@@ -33,22 +32,17 @@ word-plain quot = refl
 word-plain apos = refl
 word-plain nbsp = refl
 
-pub some-is : {x y : ℕ} → some x ≡ some y → x ≡ y
-some-is e = cc
-
-pub named-plain : (u : List ℕ) (c : ℕ) → named u ≡ some c → IsScalar c × (is-control c ≡ false)
-named-plain u c e =
-    let p = and-true (is-scalar c) (not (is-control c)) (by (kind u)) in
-    (scalar-true c (p .0), not-true (is-control c) (p .1))
+pub named-scalar : (u : List ℕ) (c : ℕ) → named u ≡ some c → IsScalar c
+named-scalar u c e = scalar-true c (and-true (is-scalar c) (not (is-control c)) (by (kind u)) .0)
   where
     by : Kind u → is-scalar c && not (is-control c) ≡ true
     by (word k q) =
-        let m : meant k ≡ c = some-is (sym (named-word k) ∙ ap named (sym q) ∙ e) in
+        let m : meant k ≡ c = Option·some-injective (meant k) c (sym (named-word k) ∙ ap named (sym q) ∙ e) in
         subst (λ (x : ℕ). is-scalar x && not (is-control x) ≡ true) m (word-plain k)
     by (other h) =
-        let t = then-some (written u) plain c (sym (number-written u) ∙ sym (named-other u h) ∙ e) in
-        let d = ensure-some (is-scalar (t .0) && not (is-control (t .0))) (some (t .0)) c (t .2) in
-        subst (λ (x : ℕ). is-scalar x && not (is-control x) ≡ true) (some-is (d .1)) (d .0)
+        let t = then-some (written u) plain (sym (number-written u) ∙ sym (named-other u h) ∙ e) in
+        let d = ensure-some (is-scalar (t .0) && not (is-control (t .0))) (some (t .0)) (t .2) in
+        subst (λ (x : ℕ). is-scalar x && not (is-control x) ≡ true) (Option·some-injective (t .0) c (d .1)) (d .0)
 
 -- ---- a name has two characters at least
 word-long : (k : Word) → 2 ≤ length (str (spelling k))
@@ -66,7 +60,7 @@ from-long radix (c ∷ s) n e = omega arith
 
 written-long : (u : List ℕ) (n : ℕ) → written u ≡ some n → 2 ≤ length u
 unfolding written
-written-long u n e = by (starts "#x" u || starts "#X" u) (ensure-some (starts "#" u) _ n e .1)
+written-long u n e = by (starts "#x" u || starts "#X" u) (ensure-some (starts "#" u) _ e .1)
   where
     by : (t : Bool) → (if t then from-str-radix 16 (drop 2 u) else from-str-radix 10 (drop 1 u)) ≡ some n → 2 ≤ length u
     by true f = omega (arith, from-long 16 (drop 2 u) n f, length-drop 2 u)
@@ -77,7 +71,7 @@ named-long u c e = by (kind u)
   where
     by : Kind u → 2 ≤ length u
     by (word k q) = rw q (word-long k)
-    by (other h) = written-long u _ (then-some (written u) plain c (sym (number-written u) ∙ sym (named-other u h) ∙ e) .1)
+    by (other h) = written-long u _ (then-some (written u) plain (sym (number-written u) ∙ sym (named-other u h) ∙ e) .1)
 
 -- ---- a replaced reference is a name and the first `;`
 pub pair-is : (a b c d : ℕ) → _≡_ {A = Option (ℕ × ℕ)} (some (a, b)) (some (c, d)) → (a ≡ c) × (b ≡ d)
@@ -89,7 +83,7 @@ pair-is a b c d e = (ap (λ o. of o .0) e, ap (λ o. of o .1) e)
 
 sized-some : (u : List ℕ) (c n : ℕ) → sized u ≡ some (c, n) → (named u ≡ some c) × (n ≡ length u + 1)
 sized-some u c n e =
-    let t = then-some (named u) (λ d. some (d, length u + 1)) (c, n) e in
+    let t = then-some (named u) (λ d. some (d, length u + 1)) e in
     let p = pair-is (t .0) (length u + 1) c n (t .2) in
     (t .1 ∙ ap some (p .0), sym (p .1))
 
@@ -101,8 +95,6 @@ pub record IsReplaced (s : List ℕ) (c n : ℕ) : Type 0 where
   pub meaning : named name ≡ some c
   pub count : n ≡ length name + 1
   pub long : 3 ≤ n
-  pub scalar : IsScalar c
-  pub no-control : is-control c ≡ false
 
 pub replaced : (s : List ℕ) (c n : ℕ) → reference s ≡ some (c, n) → IsReplaced s c n
 replaced s c n e = by (first 59 s)
@@ -110,9 +102,8 @@ replaced s c n e = by (first 59 s)
     by : First 59 s → IsReplaced s c n
     by (missing w) = let i = reference-missing s w in let z : _≡_ {A = ℕ} 0 1 = cc in absurd (omega arith)
     by (here u v w q) =
-        let f = ensure-some (leb (1 + size u) 10) (sized u) (c, n) (sym (reference-here u v w) ∙ ap reference (sym q) ∙ e) in
+        let f = ensure-some (leb (1 + size u) 10) (sized u) (sym (reference-here u v w) ∙ ap reference (sym q) ∙ e) in
         let g = sized-some u c n (f .1) in
-        let p = named-plain u c (g .0) in
         let l = named-long u c (g .0) in
         let m = g .1 in
         record {
@@ -123,51 +114,33 @@ replaced s c n e = by (first 59 s)
           meaning = g .0;
           count = m;
           long = omega arith;
-          scalar = p .0;
-          no-control = p .1;
         }
 
--- ---- in bytes: as many as characters, all ASCII, 10 at most
+-- ---- in bytes: as many as characters
 pub record IsRead (s : List ℕ) (i c n : ℕ) : Type 0 where
   pub low : 3 ≤ n
-  pub high : n ≤ 10
   pub bound : i + n ≤ length s
-  pub front : take n (chars (drop i s)) ≡ take n (drop i s)
-  pub ascii : Ascii (take n (drop i s))
   pub rest : drop n (chars (drop i s)) ≡ chars (drop (i + n) s)
   pub scalar : IsScalar c
-  pub no-control : is-control c ≡ false
 
 pub read-is : (s : List ℕ) (i c n : ℕ) → reference (chars (drop i s)) ≡ some (c, n) → IsRead s i c n
 read-is s i c n e = by (first 59 (drop i s))
   where
-    snoc : (u : List ℕ) → Ascii u → Ascii (u ++ 59 ∷ [])
-    snoc [] h = (omega arith, tt)
-    snoc (x ∷ u) h = (h .0, snoc u (h .1))
-
     by : First 59 (drop i s) → IsRead s i c n
     by (missing w) = let j = bytes-missing (drop i s) w in let z : _≡_ {A = ℕ} 0 1 = cc in absurd (omega arith)
     by (here u v w q) =
-        let f = ensure-some (leb (1 + length u) 10) (sized u) (c, n) (sym (bytes-here u v w) ∙ ap (λ (l : List ℕ). reference (chars l)) (sym q) ∙ e) in
+        let f = ensure-some (leb (1 + length u) 10) (sized u) (sym (bytes-here u v w) ∙ ap (λ (l : List ℕ). reference (chars l)) (sym q) ∙ e) in
         let g = sized-some u c n (f .1) in
-        let p = named-plain u c (g .0) in
         let l = named-long u c (g .0) in
         let m : n ≡ length u + 1 = g .1 in
-        let h = leb-true (1 + length u) 10 (f .0) in
         let a = named-ascii u c (g .0) in
-        let k : chars (drop i s) ≡ u ++ 59 ∷ chars v = ap chars q ∙ chars-here 59 (omega arith) u v ∙ ap (λ (x : List ℕ). x ++ 59 ∷ chars v) (chars-all u a) in
-        let t : take n (drop i s) ≡ u ++ 59 ∷ [] = rw (q, m) (take-append-add u (59 ∷ v) 1) in
+        let k : chars (drop i s) ≡ u ++ 59 ∷ chars v = ap chars q ∙ chars-here 59 (omega arith) u v ∙ ap (λ (x : List ℕ). x ++ 59 ∷ chars v) (chars-same u a) in
         let d : drop (i + n) s ≡ v = sym (drop-drop n i s) ∙ ap (drop n) q ∙ rw m (drop-append-add u (59 ∷ v) 1) in
-        let b = ap length q in
         record {
           low = omega arith;
-          high = omega arith;
-          bound = omega (arith, length-append u (59 ∷ v), length-drop i s);
-          front = rw (t, k, m) (take-append-add u (59 ∷ chars v) 1);
-          ascii = rw t (snoc u a);
+          bound = omega (arith, ap length q, length-append u (59 ∷ v), length-drop i s);
           rest = rw (k, m) (drop-append-add u (59 ∷ chars v) 1) ∙ ap chars (sym d);
-          scalar = p .0;
-          no-control = p .1;
+          scalar = named-scalar u c (g .0);
         }
 
 -- ---- `unescape`, step by step
@@ -195,7 +168,7 @@ unescape-replaced s c n e = rw e (ap (λ (l : List ℕ). c ∷ l) (unescape-drop
 
 -- at an `&` of some bytes
 module _ (s : List ℕ) (i : ℕ) (l : i < length s) (a : getD s i 0 ≡ 38) where
-  at-and : chars (drop i s) ≡ 38 ∷ chars (drop (i + 1) s)
+  pub at-and : chars (drop i s) ≡ 38 ∷ chars (drop (i + 1) s)
   at-and = advance-ascii s i l (omega arith) ∙ rw a
 
   pub left-at : reference (chars (drop (i + 1) s)) ≡ none → unescape 0 (chars (drop i s)) ≡ 38 ∷ unescape 0 (chars (drop (i + 1) s))

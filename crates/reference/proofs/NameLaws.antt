@@ -4,17 +4,16 @@ use Prim.Native.Nat.{ℕ}
 use Prim.Native.Char.{Char, code}
 use Prim.Native.String.{String}
 use mathlib.Core.Bool.{Bool, true, false, _&&_, _||_, not}
-use mathlib.Core.List.{List, [], _∷_, _++_}
+use mathlib.Core.List.{List, [], _∷_}
 use mathlib.Core.Logic.{⊎-elim}
 use mathlib.Core.Option.{Option, none, some}
 use mathlib.Core.Path.{_≡_, refl, sym, _∙_}
 use borrow.Author.Tests.{eqb-true, eqb-false, eq-eqb, ne-eqb}
-use native.Mathlib.Omega.{arith}
 use lib.Dec.{eqb, eqb·zero-suc, eqb·suc-zero, eqb·suc-suc}
 use lib.ListN.{length, drop}
 use Rattle.text.specs.Words.{if_then_else_, _>>=_, ensure, case, str, same, starts-with, starts, lookup}
 use Rattle.text.specs.Chars.{is-scalar, is-control}
-use Rattle.text.proofs.Tests.{decide, and-true}
+use Rattle.text.proofs.Tests.{decide, same-true}
 use Rattle.reference.specs.Unescape.{from-str-radix, names, number, named}
 use Rattle.reference.specs.Answers.{is-hexadecimal, written}
 
@@ -97,15 +96,6 @@ pub past-none : (name : List ℕ) → Past 0 name
 unfolding named
 past-none name = refl
 
--- ---- steps that may fail, and did not
-pub then-some : {A B : Type 0} (o : Option A) (f : A → Option B) (b : B) → o >>= f ≡ some b → (a : A) × (o ≡ some a) × (f a ≡ some b)
-then-some none f b e = let z : _≡_ {A = ℕ} 0 1 = cc in absurd (omega arith)
-then-some (some a) f b e = (a, refl, e)
-
-pub ensure-some : {A : Type 0} (t : Bool) (o : Option A) (a : A) → (ensure t >>= λ _. o) ≡ some a → (t ≡ true) × (o ≡ some a)
-ensure-some true o a e = (refl, e)
-ensure-some false o a e = (cc, cc)
-
 -- ---- a name is one of the six, or none of them
 pub data Word : Type 0 where
   amp : Word
@@ -132,16 +122,6 @@ Other u = (k : Word) → Not u k
 pub data Kind (u : List ℕ) : Type 0 where
   word : (k : Word) → u ≡ str (spelling k) → Kind u
   other : Other u → Kind u
-
-pub same-true : (t s : List ℕ) → same t s ≡ true → t ≡ s
-same-true [] [] e = refl
-same-true [] (c ∷ s) e = cc
-same-true (d ∷ t) [] e = cc
-same-true (d ∷ t) (c ∷ s) e =
-    let p = and-true (eqb d c) (same t s) e in
-    let q = eqb-true d c (p .0) in
-    let r = same-true t s (p .1) in
-    cc
 
 pub kind : (u : List ℕ) → Kind u
 kind u = try amp (λ a. try lt (λ b. try gt (λ c. try quot (λ d. try apos (λ e. try nbsp (λ f. other (none-of a b c d e f)))))))
@@ -178,13 +158,3 @@ named-word nbsp = refl
 pub named-other : (u : List ℕ) → Other u → named u ≡ number u
 unfolding named names
 named-other u h = rw (h amp, h lt, h gt, h quot, h apos, h nbsp)
-
--- ---- a text that starts with another
-pub starts-split : (p s : List ℕ) → starts-with p s ≡ true → s ≡ p ++ drop (length p) s
-starts-split [] s e = refl
-starts-split (d ∷ p) [] e = cc
-starts-split (d ∷ p) (c ∷ s) e =
-    let q = and-true (eqb c d) (starts-with p s) e in
-    let r = eqb-true c d (q .0) in
-    let t = starts-split p s (q .1) in
-    cc

@@ -14,7 +14,8 @@ use Rattle.text.specs.Utf8.{chars}
 use Rattle.text.proofs.Tests.{decide, on, within-below}
 use Rattle.text.proofs.Laws.{chars-append}
 use Rattle.text.proofs.AsciiLaws.{chars-ascii}
-use Rattle.text.proofs.FindLaws.{until, chars-until}
+use Rattle.text.proofs.FindLaws.{chars-until}
+use Rattle.text.specs.Find.{until}
 
 -- b is not in the text
 abbrev pub Without : ℕ → List ℕ → Type 0

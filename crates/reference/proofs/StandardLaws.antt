@@ -4,7 +4,7 @@ use Prim.Native.Nat.{ℕ, _+_, _≤_, _<_}
 use mathlib.Core.Bool.{Bool, true, false, _||_, not}
 use mathlib.Core.List.{List, [], _∷_, _++_}
 use mathlib.Core.Logic.{⊎-elim, _↔_}
-use mathlib.Core.Option.{Option, none, some}
+use mathlib.Core.Option.{Option, none, some, Option·some-injective}
 use mathlib.Core.Path.{_≡_, refl, sym, ap, _∙_}
 use borrow.Author.Tests.{leb-true, leb-false, lt-ltb, le-ltb, ltb-true, eqb-true}
 use native.Mathlib.Omega.{arith}
@@ -14,14 +14,14 @@ use lib.Seq.{take-append-seam}
 use Rattle.text.specs.Words.{if_then_else_, _>>=_, ensure, case, str, is, any, same, starts-with, index}
 use Rattle.text.specs.Chars.{within, is-control}
 use Rattle.text.specs.Utf8.{size}
-use Rattle.text.proofs.Tests.{decide, and-true, or-elim, or-right, within-true, within-is}
+use Rattle.text.proofs.Tests.{decide, and-true, or-elim, or-right, within-true, within-is, then-some, same-true}
 use Rattle.reference.specs.Unescape.{names, number, named, reference}
 use Rattle.reference.specs.Answers.{written}
 use Rattle.reference.specs.Standard.{end-state, numeric, entities, standard-named, standard, name-of, far, no-number, refused, signed, unsigned, own}
 use Rattle.reference.proofs.SplitLaws.{Without, First, missing, here, first, index-missing, index-here}
-use Rattle.reference.proofs.NameLaws.{Word, amp, lt, gt, quot, apos, nbsp, spelling, meant, Other, Kind, word, other, kind, same-true, named-word, named-other, plain, number-written, then-some}
+use Rattle.reference.proofs.NameLaws.{Word, amp, lt, gt, quot, apos, nbsp, spelling, meant, Other, Kind, word, other, kind, named-word, named-other, plain, number-written}
 use Rattle.reference.proofs.StepLaws.{reference-here}
-use Rattle.reference.proofs.Laws.{some-is, pair-is, reference-word, IsReplaced, replaced}
+use Rattle.reference.proofs.Laws.{pair-is, reference-word, IsReplaced, replaced}
 use Rattle.reference.proofs.StandardNumbers.{zero-control, number-yes, plain-is, signs}
 
 -- ---- both, by what stands before the first `;`
@@ -34,7 +34,7 @@ counted u = standard-named u >>= λ c. some (c, length u + 1)
 
 counted-some : (u : List ℕ) (c n : ℕ) → counted u ≡ some (c, n) → (standard-named u ≡ some c) × (n ≡ length u + 1)
 counted-some u c n e =
-    let t = then-some (standard-named u) (λ d. some (d, length u + 1)) (c, n) e in
+    let t = then-some (standard-named u) (λ d. some (d, length u + 1)) e in
     let p = pair-is (t .0) (length u + 1) c n (t .2) in
     (t .1 ∙ ap some (p .0), sym (p .1))
 
@@ -115,11 +115,11 @@ named-standard u c e = by (kind u)
   where
     by : Kind u → named u ≡ (if refused u then none else some (own u c))
     by (word k q) =
-        let m : c ≡ entity k = some-is (sym e ∙ ap standard-named q ∙ standard-word k) in
+        let m : c ≡ entity k = Option·some-injective _ _ (sym e ∙ ap standard-named q ∙ standard-word k) in
         rw (q, m) (own-word k)
     by (other h) =
-        let t = then-some (numeric u) (λ v. some (end-state v)) c (sym (entity-other u h) ∙ e) in
-        let m : c ≡ end-state (t .0) = sym (some-is (t .2)) in
+        let t = then-some (numeric u) (λ v. some (end-state v)) (sym (entity-other u h) ∙ e) in
+        let m : c ≡ end-state (t .0) = sym (Option·some-injective _ _ (t .2)) in
         rw (m, h nbsp) (named-other u h ∙ number-own u (t .0) (t .1))
 
 -- ---- the step
@@ -207,17 +207,17 @@ plain-some v c e = by (no-number v) (sym (plain-is v) ∙ e)
   where
     by : (t : Bool) → (if t then none else some v) ≡ some c → (t ≡ false) × (v ≡ c)
     by true f = (cc, cc)
-    by false f = (refl, some-is f)
+    by false f = (refl, Option·some-injective _ _ f)
 
 standard-of : (u : List ℕ) (c : ℕ) → named u ≡ some c → same (str "nbsp") u ≡ false → signed u ≡ false → standard-named u ≡ some c
 standard-of u c e n p = by (kind u)
   where
     by : Kind u → standard-named u ≡ some c
     by (word k q) =
-        let m : meant k ≡ c = some-is (sym (named-word k) ∙ ap named (sym q) ∙ e) in
+        let m : meant k ≡ c = Option·some-injective _ _ (sym (named-word k) ∙ ap named (sym q) ∙ e) in
         ap standard-named q ∙ standard-word k ∙ ap some (meant-entity k (ap (same (str "nbsp")) (sym q) ∙ n) ∙ m)
     by (other h) =
-        let t = then-some (written u) plain c (sym (number-written u) ∙ sym (named-other u h) ∙ e) in
+        let t = then-some (written u) plain (sym (number-written u) ∙ sym (named-other u h) ∙ e) in
         let k = plain-some (t .0) c (t .2) in
         let r : numeric u ≡ some (t .0) = sym (signs u .without p) ∙ t .1 in
         entity-other u h ∙ rw r (ap some (number-yes (t .0) (k .0) .stays ∙ k .1))

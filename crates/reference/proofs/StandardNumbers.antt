@@ -1,7 +1,7 @@
 -- The numbers that a name writes, here and by the HTML standard: which of them are characters, what digits add up to, and the `+`.
 -- Assumes nothing.
 use Prim.Native.Nat.{ℕ, _+_, _-_, _*_, _≤_, _<_}
-use mathlib.Core.Bool.{Bool, true, false, _&&_, _||_, not}
+use mathlib.Core.Bool.{Bool, true, false, _&&_, _||_, not, or-false}
 use mathlib.Core.List.{List, [], _∷_}
 use mathlib.Core.Logic.{inl, inr, ⊎-elim}
 use mathlib.Core.Option.{Option, none, some}
@@ -12,12 +12,12 @@ use lib.Dec.{leb, ltb, eqb}
 use lib.ListN.{drop}
 use Rattle.text.specs.Words.{if_then_else_, _>>=_, ensure, str, is, starts-with, starts}
 use Rattle.text.specs.Chars.{within, is-scalar, is-control}
-use Rattle.text.proofs.Tests.{decide, on, and-true, and-false, or-elim, within-true, within-is, within-below}
+use Rattle.text.proofs.Tests.{decide, on, and-true, and-false, or-elim, within-true, within-is, within-below, or-neither, starts-split}
 use Rattle.text.proofs.Laws.{scalar-is}
 use Rattle.reference.specs.Unescape.{digit, digits, from-str-radix}
 use Rattle.reference.specs.Answers.{some-digits, written}
 use Rattle.reference.specs.Standard.{table, row, end-state, decimal-digit, hexadecimal-digit, add-digits, decimal, hexadecimal, numeric, no-number, signed, unsigned}
-use Rattle.reference.proofs.NameLaws.{plain, starts-split}
+use Rattle.reference.proofs.NameLaws.{plain}
 use Rattle.reference.proofs.DigitLaws.{digit-0, digit-a, digit-A, digit-none, digit-high, from-plus, from-other}
 
 -- ---- numbers
@@ -44,10 +44,6 @@ pub record Number (v : ℕ) : Type 0 where
   pub is : is-scalar v && not (is-control v) ≡ true
   pub stays : end-state v ≡ v
 
-or-false : (a b : Bool) → a || b ≡ false → (a ≡ false) × (b ≡ false)
-or-false true b e = (cc, cc)
-or-false false b e = (refl, e)
-
 outside : (low high v : ℕ) → within low high v ≡ false → low ≤ v → high < v
 outside low high v n l = ⊎-elim (λ e. let q = within-is low high v l (leb-true v high e) in let z : _≡_ {A = ℕ} 0 1 = cc in absurd (omega arith)) (λ e. leb-false v high e) (decide (leb v high))
 
@@ -58,14 +54,14 @@ scalar v s h =
 
 same-number : (v : ℕ) → eqb v 0 ≡ false → ltb 0x10FFFF v ≡ false → within 0xD800 0xDFFF v ≡ false → is-control v ≡ false → end-state v ≡ v
 unfolding end-state is-control
-same-number v z h s c = simp (z, h, s) (row-other table v table-controls (or-false (leb v 31) (within 127 159 v) c .1))
+same-number v z h s c = simp (z, h, s) (row-other table v table-controls (or-neither (leb v 31) (within 127 159 v) c .1))
 
 pub number-yes : (v : ℕ) → no-number v ≡ false → Number v
 unfolding no-number
 number-yes v e =
-    let a = or-false (is-control v || eqb v 0 || within 0xD800 0xDFFF v) (ltb 0x10FFFF v) e in
-    let b = or-false (is-control v || eqb v 0) (within 0xD800 0xDFFF v) (a .0) in
-    let c = or-false (is-control v) (eqb v 0) (b .0) in
+    let a = or-neither (is-control v || eqb v 0 || within 0xD800 0xDFFF v) (ltb 0x10FFFF v) e in
+    let b = or-neither (is-control v || eqb v 0) (within 0xD800 0xDFFF v) (a .0) in
+    let c = or-neither (is-control v) (eqb v 0) (b .0) in
     record { is = rw (scalar v (b .1) (a .1), c .0); stays = same-number v (c .1) (a .1) (b .1) (c .0) }
 
 pub zero-control : is-control 0 ≡ true
@@ -177,10 +173,6 @@ module _ (radix : ℕ) (f : List ℕ → Option ℕ) (same-digits : (s : List �
           without = λ e. ours ∙ from-other radix t 0 (sym sign ∙ e) ∙ same-digits t ∙ sym theirs;
         }
 
-or-nothing : (a : Bool) → a || false ≡ a
-or-nothing true = refl
-or-nothing false = refl
-
 starts-more : (d : ℕ) (p t : List ℕ) → starts-with (d ∷ []) t ≡ false → starts-with (d ∷ p) t ≡ false
 starts-more d p [] e = refl
 starts-more d p (c ∷ t) e = by (eqb c d) e
@@ -206,14 +198,14 @@ signs-decimal : (t : List ℕ) → starts "x" t ≡ false → starts "X" t ≡ f
 unfolding signed written numeric unsigned
 signs-decimal t x y =
     signs-by 10 decimal decimal-same plus-decimal (35 ∷ t) t
-    (rw (starts-more 120 (str "+") t x, starts-more 88 (str "+") t y) (or-nothing (starts "+" t || false) ∙ or-nothing (starts "+" t)))
+    (rw (starts-more 120 (str "+") t x, starts-more 88 (str "+") t y) (or-false (starts "+" t || false) ∙ or-false (starts "+" t)))
     (rw (x, y))
     (rw (x, y))
     (λ e. rw e)
 
 signs-x : (t : List ℕ) → Signs (35 ∷ 120 ∷ t)
 unfolding signed written numeric unsigned
-signs-x t = signs-by 16 hexadecimal hexadecimal-same plus-hexadecimal (35 ∷ 120 ∷ t) t (or-nothing (starts "+" t)) refl refl (λ _. refl)
+signs-x t = signs-by 16 hexadecimal hexadecimal-same plus-hexadecimal (35 ∷ 120 ∷ t) t (or-false (starts "+" t)) refl refl (λ _. refl)
 
 signs-X : (t : List ℕ) → Signs (35 ∷ 88 ∷ t)
 unfolding signed written numeric unsigned

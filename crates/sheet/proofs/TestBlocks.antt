@@ -14,7 +14,8 @@ use Rattle.text.specs.Words.{str, repeat, _>>=_}
 use Rattle.text.specs.Chars.{within}
 use Rattle.text.specs.Utf8.{utf8, code-at}
 use Rattle.text.proofs.Tests.{within-true, decide}
-use Rattle.text.proofs.Laws.{turn-is, advance-end, utf8-ascii}
+use Rattle.text.proofs.Laws.{turn-is, advance-end}
+use Rattle.text.proofs.Utf8.{utf8-1}
 use Rattle.sheet.specs.Reading.{_<|>_, strip}
 use Rattle.sheet.specs.Tree.{Run, Mark, Items, end, leaf, node, alone, with, Block, heading, para, list}
 use Rattle.sheet.specs.Grammar.{closes-h, is-list, IsList}
@@ -102,7 +103,7 @@ module _ (page : List ℕ) (at : ℕ) (e : strip (str "<h") (from page at) ≡ s
       let i = heading-in page (at + 2) refl h in
       let t = turn-is page (at + 2) (i .2) in
       let c = code-at page (at + 2) in
-      let z : at + 2 + length (utf8 c) ≡ at + 3 = omega (arith, ap length (utf8-ascii c (omega arith))) in
+      let z : at + 2 + length (utf8 c) ≡ at + 3 = omega (arith, ap length (utf8-1 c (omega arith))) in
       let s : from page (at + 2) ≡ c ∷ from page (at + 3) = t .rest ∙ ap (λ (k : ℕ). c ∷ from page k) z in
       rw (s, h) (ap (λ (k : ℕ). some (k, from page (at + 3))) (sym q))
 

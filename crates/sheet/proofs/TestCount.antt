@@ -11,7 +11,8 @@ use lib.ListN.{length, length-append}
 use Rattle.text.specs.Utf8.{size}
 use Rattle.text.specs.Chars.{is-digit}
 use Rattle.text.proofs.Tests.{and-true, within-true}
-use Rattle.text.proofs.Laws.{size-append, utf8-ascii}
+use Rattle.text.proofs.Laws.{size-append}
+use Rattle.text.proofs.Utf8.{utf8-1}
 use Rattle.sheet.specs.declared.count.Count.{Count}
 use Rattle.sheet.specs.Weight.{weight, alike, added}
 use Rattle.sheet.proofs.AllChars.{Marks}
@@ -38,7 +39,7 @@ size-ascii [] h = refl
 size-ascii (a ∷ l) h =
     let g = and-true (ltb a 0x80) (ascii l) h in
     let i = size-ascii l (g .1) in
-    let e = ap length (utf8-ascii a (ltb-true a 0x80 (g .0))) in
+    let e = ap length (utf8-1 a (ltb-true a 0x80 (g .0))) in
     omega arith
 
 pub weight-ascii : (l : List ℕ) → ascii l ≡ true → weight l ≡ alike (length l)

@@ -3,14 +3,14 @@
 use Prim.Native.Nat.{ℕ, _+_, _≤_}
 use native.Mathlib.Omega.{arith}
 use mathlib.Core.Path.{_≡_, refl, sym, _∙_, ap}
-use mathlib.Core.Bool.{Bool, true, false, not, cond, _&&_, _||_}
+use mathlib.Core.Bool.{Bool, true, false, not, cond, _&&_, _||_, and-assoc, and-true as and-true-right}
 use mathlib.Core.List.{List, [], _∷_, _++_}
 use lib.Dec.{eqb}
 use lib.ListN.{length}
 use Rattle.text.specs.Words.{if_then_else_, str}
 use Rattle.text.specs.Utf8.{size, utf8}
-use Rattle.text.proofs.Tests.{and-assoc, and-true-right}
-use Rattle.text.proofs.Laws.{utf8-size, utf8-ascii}
+use Rattle.text.proofs.Laws.{utf8-size}
+use Rattle.text.proofs.Utf8.{utf8-1}
 use Rattle.html.specs.State.{special}
 use Rattle.records.specs.Format.{non-empty}
 use Rattle.sheet.specs.Grammar.{singles, none-of}
@@ -37,7 +37,7 @@ five false false false false false = refl
 -- ---- one character's written form
 special-one : (c : ℕ) → special c ≡ true → weight (escaped (c ∷ [])) ≡ record { bytes = length (utf8 c) + 1; chars = 2 }
 unfolding escaped weight size
-special-one c h = rw h (let l = utf8-size c in let e = ap length (utf8-ascii 92 (omega arith)) in counts (omega arith) (omega arith))
+special-one c h = rw h (let l = utf8-size c in let e = ap length (utf8-1 92 (omega arith)) in counts (omega arith) (omega arith))
 
 pub weight-special : (c : ℕ) → special c ≡ true → {n : ℕ} → n ≡ length (utf8 c) → record { bytes = n + 1; chars = 2 } ≡ weight (escaped (c ∷ []))
 weight-special c h e = sym (special-one c h ∙ counts (omega arith) refl)

@@ -3,14 +3,13 @@
 use Prim.Native.Nat.{ℕ, _*_, _≤_, _<_}
 use native.Mathlib.Omega.{arith}
 use mathlib.Core.Path.{_≡_, refl, sym, _∙_, ap}
-use mathlib.Core.Bool.{Bool, true, false, not, cond, _&&_}
+use mathlib.Core.Bool.{Bool, true, false, not, cond, _&&_, and-assoc, and-true as and-true-right}
 use mathlib.Core.Option.{none}
 use mathlib.Core.List.{List, [], _∷_, _++_, append-nil, append-assoc}
 use lib.Dec.{eqb}
 use lib.ListN.{length, length-append}
 use Rattle.text.specs.Chars.{is-letter}
 use Rattle.text.specs.Utf8.{size}
-use Rattle.text.proofs.Tests.{and-assoc, and-true-right}
 use Rattle.text.proofs.Laws.{size-append}
 use Rattle.records.specs.Format.{non-empty}
 use Rattle.sheet.specs.Tree as T

@@ -2,13 +2,13 @@
 -- Assumes nothing.
 use Prim.Native.Nat.{ℕ}
 use mathlib.Core.Path.{_≡_, refl, sym, _∙_, ap, subst}
-use mathlib.Core.Bool.{Bool, true, false, not, _&&_, cond, and-false, or-false}
+use mathlib.Core.Bool.{Bool, true, false, not, _&&_, cond, and-false, or-false, and-true as and-true-right}
 use mathlib.Core.List.{List, [], _∷_, _++_, reverseAux, tail, reverseAux-append}
 use borrow.Author.Tests.{not-true, eqb-true}
 use lib.Dec.{eqb}
 use Rattle.text.specs.Words.{is-empty}
 use Rattle.text.specs.Chars.{is-space}
-use Rattle.text.proofs.Tests.{and-true, and-true-right}
+use Rattle.text.proofs.Tests.{and-true}
 use Rattle.html.specs.State.{State, with-out, line-start, spaced, special, opens, ends-with-digit, escape, put, blank, paused, next, put-all}
 use Rattle.sheet.specs.Grammar.{last-is, no-blank}
 use Rattle.sheet.specs.Written.{escaped}

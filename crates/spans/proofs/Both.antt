@@ -16,8 +16,9 @@ use Rattle.text.specs.Words.{index, starts-with, starts}
 use Rattle.text.specs.Utf8.{chars}
 use Rattle.text.proofs.Tests.{and-true}
 use Rattle.text.proofs.Laws.{chars-nil}
-use Rattle.text.proofs.FindLaws.{until, since, until-since, chars-until, chars-since, index-until}
+use Rattle.text.proofs.FindLaws.{until-since, chars-until, chars-since, index-until}
 use Rattle.text.proofs.AsciiLaws.{chars-ascii, starts-chars}
+use Rattle.text.specs.Find.{until, since}
 use Rattle.spans.specs.Spans.{link}
 
 -- ---- one mark in one list

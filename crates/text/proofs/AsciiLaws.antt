@@ -2,28 +2,23 @@
 -- Assumes nothing.
 use Prim.Native.Nat.{ℕ, zero, suc, _+_, _-_, _≤_, _<_}
 use mathlib.Core.Bool.{Bool, true, false, _&&_}
-use mathlib.Core.List.{List, [], _∷_, _++_, append-nil, append-assoc}
-use mathlib.Core.Logic.{_⊎_, ⊎-elim}
+use mathlib.Core.List.{List, [], _∷_, _++_}
+use mathlib.Core.Logic.{⊎-elim}
 use mathlib.Core.Path.{_≡_, refl, sym, ap, _∙_}
-use borrow.Author.Tests.{eq-eqb, ne-eqb, ltb-true, ltb-false, lt-ltb, le-ltb, le-leb}
+use borrow.Author.Tests.{eq-eqb, ne-eqb, ltb-true, ltb-false, lt-ltb, le-ltb, le-leb, eqb-true}
 use native.Mathlib.Numerals.{add-one}
 use native.Mathlib.Omega.{arith}
 use lib.Dec.{ltb, eqb, eqb·suc-zero}
-use lib.ListN.{length, getD, take, drop, length-append, length-drop, take-append-drop}
-use lib.Seq.{drop-cons, drop-drop, getD-take, take-at, take-append-le, drop-append-le, length-take-le, sets}
+use lib.ListN.{length, getD, take, drop, length-drop, take-append-drop}
+use lib.Seq.{drop-cons, drop-drop, getD-take, take-append-le, drop-append-le, length-take-le}
 use native.Mathlib.Nat.{add-zero}
-use Rattle.text.specs.Utf8.{utf8, encode, chars, char, size-of}
+use Rattle.text.specs.Utf8.{encode, chars, char, size-of, size}
 use Rattle.text.specs.Words.{starts-with, all, take-while}
-use Rattle.text.specs.Chars.{is-ascii, is-scalar}
-use Rattle.text.proofs.Tests.{decide, on, and-true, and-false}
+use Rattle.text.specs.Chars.{is-digit, is-ascii, is-scalar, Ascii}
+use Rattle.text.proofs.Tests.{decide, on, and-true, and-false, false-true, within-above}
 use Rattle.text.proofs.Utf8.{utf8-1, char-1, char-ascii}
-use Rattle.text.proofs.Laws.{Next, next-is, Pos, pos-next, chars-nil, chars-at, encode-append}
-use Rattle.text.proofs.PutLaws.{put-parts}
+use Rattle.text.proofs.Laws.{Next, next-is, Pos, pos-next, chars-nil, chars-at, size-encode}
 use Rattle.text.proofs.RunLaws.{run-le, run-take, run-all, run-next}
-
-abbrev pub Ascii : List ℕ → Type 0
-Ascii [] = Unit
-Ascii (x ∷ xs) = (x < 0x80) × Ascii xs
 
 -- an ASCII byte is its own character
 pub chars-ascii : (x : ℕ) (xs : List ℕ) → x < 0x80 → chars (x ∷ xs) ≡ x ∷ chars xs
@@ -33,6 +28,32 @@ chars-ascii x xs h = chars-at (x ∷ xs) x 1 (char-1 x xs (omega arith))
 pub encode-ascii : (xs : List ℕ) → Ascii xs → encode xs ≡ xs
 encode-ascii [] h = refl
 encode-ascii (x ∷ xs) h = rw (utf8-1 x (h .0)) (ap (λ (l : List ℕ). x ∷ l) (encode-ascii xs (h .1)))
+
+-- and is its own characters
+pub chars-same : (xs : List ℕ) → Ascii xs → chars xs ≡ xs
+chars-same [] h = chars-nil
+chars-same (x ∷ xs) h = chars-ascii x xs (h .0) ∙ ap (λ (l : List ℕ). x ∷ l) (chars-same xs (h .1))
+
+pub size-ascii : (xs : List ℕ) → Ascii xs → size xs ≡ length xs
+size-ascii xs h = sym (size-encode xs) ∙ ap length (encode-ascii xs h)
+
+pub ascii-append : (xs ys : List ℕ) → Ascii xs → Ascii ys → Ascii (xs ++ ys)
+ascii-append [] ys p q = q
+ascii-append (x ∷ xs) ys p q = (p .0, ascii-append xs ys (p .1) q)
+
+-- ASCII as a test
+pub ascii-true : (xs : List ℕ) → all is-ascii xs ≡ true → Ascii xs
+unfolding is-ascii
+ascii-true [] e = tt
+ascii-true (x ∷ xs) e = let p = and-true (is-ascii x) (all is-ascii xs) e in (ltb-true x 0x80 (p .0), ascii-true xs (p .1))
+
+pub ascii-is : (xs : List ℕ) → Ascii xs → all is-ascii xs ≡ true
+unfolding is-ascii
+ascii-is [] h = refl
+ascii-is (x ∷ xs) h = simp (lt-ltb x 0x80 (h .0), ascii-is xs (h .1))
+
+pub digit-high : (c : ℕ) → 0x80 ≤ c → is-digit c ≡ false
+digit-high c h = within-above 48 57 c (omega arith) (omega arith)
 
 -- another byte starts no ASCII character
 pub chars-high : (x : ℕ) (xs : List ℕ) → 0x80 ≤ x → (c : ℕ) × (cs : List ℕ) × (chars (x ∷ xs) ≡ c ∷ cs) × (0x80 ≤ c)
@@ -60,15 +81,14 @@ starts-chars (p ∷ ps) (x ∷ xs) h =
     rw (y .2, ne-eqb x p (omega arith), ne-eqb (y .0) p (omega arith)))
     (decide (ltb x 0x80))
 
--- ---- a buffer whose first bytes are the encoding of what was written, with a character more
-pub put-encode : (out : List ℕ) (at c : ℕ) (w : List ℕ) → at + length (utf8 c) ≤ length out → take at out ≡ encode w
-    → take (at + length (utf8 c)) (sets out at (utf8 c)) ≡ encode (w ++ (c ∷ []))
-put-encode out at c w l e =
-    rw (put-parts out at c l, ← append-assoc)
-    (take-at (take at out ++ utf8 c) (drop (at + length (utf8 c)) out) (at + length (utf8 c)) (length-append (take at out) (utf8 c) ∙ ap (λ (n : ℕ). n + length (utf8 c)) (length-take-le at out (omega arith)))
-    ∙ ap (λ (x : List ℕ). x ++ utf8 c) e
-    ∙ ap (λ (x : List ℕ). encode w ++ x) (sym (append-nil (utf8 c)))
-    ∙ sym (encode-append w (c ∷ [])))
+-- an ASCII text that stands at the start is as long in bytes as in characters
+pub drop-chars : (ps bs : List ℕ) → Ascii ps → starts-with ps bs ≡ true → chars (drop (length ps) bs) ≡ drop (length ps) (chars bs)
+drop-chars [] bs a h = refl
+drop-chars (d ∷ ps) [] a h = false-true h
+drop-chars (d ∷ ps) (b ∷ bs) a h =
+    let q = and-true (eqb b d) (starts-with ps bs) h in
+    let e = eqb-true b d (q .0) in
+    rw (chars-ascii b bs (omega arith)) (drop-chars ps bs (a .1) (q .1))
 
 -- ---- a comparison that goes byte by byte
 pub starts-next : (ps xs : List ℕ) (i j : ℕ) → j < length ps → i + j < length xs → getD xs (i + j) 0 ≡ getD ps j 0

@@ -1,8 +1,8 @@
 -- The laws of `specs/Cut.antt`.
 -- Assumes nothing.
 use Prim.Native.Nat.{ℕ, zero, suc, _+_, _-_, _≤_, _<_}
-use mathlib.Core.Bool.{Bool, true, false, _&&_, true≢false}
-use mathlib.Core.List.{List, [], _∷_, _++_}
+use mathlib.Core.Bool.{Bool, true, false, _&&_, true≢false, and-true as and-true-right}
+use mathlib.Core.List.{List, [], _∷_, _++_, cons-ne-nil}
 use mathlib.Core.Logic.{⊎-elim}
 use mathlib.Core.Path.{_≡_, refl, sym, ap, _∙_}
 use borrow.Author.Tests.{le-leb, lt-leb, le-ltb, lt-ltb, leb-true, leb-false, eq-eqb, ne-eqb}
@@ -11,22 +11,18 @@ use lib.Dec.{leb, ltb, eqb}
 use lib.ListN.{length, getD, take, drop, length-append, List·getD-append}
 use lib.Seq.{take-append-seam, drop-append-add, drop-cons}
 use Rattle.text.specs.Words.{if_then_else_}
-use Rattle.text.specs.Utf8.{IsScalar, utf8, encode, tail, char, size-of, stray, chars}
+use Rattle.text.specs.Utf8.{IsScalar, utf8, encode, tail, char, size-of, stray, chars, size}
 use Rattle.text.specs.Cut.{cut, splits, cut-end}
 use Rattle.text.specs.declared.Char.{Char}
 use Rattle.text.specs.declared.Char.the-variants.{At, Bad, End}
-use Rattle.text.proofs.Tests.{decide, on, and-true, and-false, and-true-right, within-is}
+use Rattle.text.proofs.Tests.{decide, on, and-true, and-false, within-is}
 use Rattle.text.proofs.Utf8.{utf8-stray, char-at, char-utf8, sound}
-use Rattle.text.proofs.Laws.{by-chars, encode-append, encode-chars, chars-nil, chars-utf8, chars-bad, utf8-size, utf8-lead, utf8-tail, not-nil}
+use Rattle.text.proofs.Laws.{by-chars, encode-append, encode-chars, chars-nil, chars-utf8, chars-bad, utf8-size, utf8-lead, utf8-tail, size-chars}
 
 -- one character more, or no more
 pub cut-more : (n c : ℕ) (cs : List ℕ) → length (utf8 c) ≤ n → length (encode (cut n (c ∷ cs))) ≡ length (utf8 c) + length (encode (cut (n - length (utf8 c)) cs))
 unfolding cut
 cut-more n c cs h = rw (le-leb _ _ h) (length-append (utf8 c) (encode (cut (n - length (utf8 c)) cs)))
-
-pub cut-some : (n c : ℕ) (cs : List ℕ) → length (utf8 c) ≤ n → cut n (c ∷ cs) ≡ c ∷ cut (n - length (utf8 c)) cs
-unfolding cut
-cut-some n c cs h = rw (le-leb _ _ h)
 
 pub cut-none : (n c : ℕ) (cs : List ℕ) → n < length (utf8 c) → cut n (c ∷ cs) ≡ []
 unfolding cut
@@ -55,20 +51,14 @@ cut-le n s =
     let e : encode (cut n (chars s)) ++ encode (p .0) ≡ s = sym (encode-append (cut n (chars s)) (p .0)) ∙ ap encode (sym (p .1)) ∙ encode-chars s in
     omega (arith, simp length-append at (ap length e))
 
+-- a text that is short enough stays whole
+pub cut-whole : (n : ℕ) (cs : List ℕ) → size cs ≤ n → cut n cs ≡ cs
+unfolding cut size
+cut-whole n [] h = refl
+cut-whole n (c ∷ cs) h = rw (le-leb (length (utf8 c)) n (omega arith)) (ap (λ (l : List ℕ). c ∷ l) (cut-whole (n - length (utf8 c)) cs (omega arith)))
+
 pub cut-all : (n : ℕ) (s : List ℕ) → length s ≤ n → encode (cut n (chars s)) ≡ s
-unfolding cut
-cut-all n s =
-    by-chars (λ (s : List ℕ). (n : ℕ) → length s ≤ n → encode (cut n (chars s)) ≡ s) (λ n _. nil n)
-    (λ c bs h ih n l.
-    let m = simp length-append at l in
-    rw (chars-utf8 c bs h, cut-some n c (chars bs) (omega arith)) (ap (λ (x : List ℕ). utf8 c ++ x) (ih (n - length (utf8 c)) (omega arith))))
-    (λ b bs e ih n l.
-    let m = ap length (utf8-stray b) in
-    rw (chars-bad b bs e, cut-some n (stray b) (chars bs) (omega arith), utf8-stray b) (ap (λ (x : List ℕ). b ∷ x) (ih (n - 1) (omega arith))))
-    s n
-  where
-    nil : (n : ℕ) → encode (cut n (chars [])) ≡ []
-    nil n = rw chars-nil
+cut-all n s h = ap encode (cut-whole n (chars s) (rw (size-chars s) h)) ∙ encode-chars s
 
 -- ---- where the cut is, found from the bytes before it
 -- a tail byte starts no character
@@ -82,7 +72,7 @@ tail-size b bs l h = by (char (b ∷ bs)) refl
         let q : getD (utf8 c) 0 0 ≡ b = sym (List·getD-append (utf8 c) (drop n (b ∷ bs)) 0 0 (omega arith)) ∙ ap (λ (x : List ℕ). getD x 0 0) (sym (d .split)) in
         absurd (true≢false (sym (within-is 0x80 0xBF b l h) ∙ ap tail (sym q) ∙ utf8-lead c (d .scalar)))
     by Bad e = refl
-    by End e = absurd (not-nil b bs (rw e at (sound (b ∷ bs))))
+    by End e = absurd (cons-ne-nil b bs (rw e at (sound (b ∷ bs))))
 
 -- x is what the first character of x and bs takes up, and no character starts inside it
 record Whole (x bs : List ℕ) : Type 0 where
@@ -206,10 +196,3 @@ cut-end-is =
   where
     nil : length (encode (cut 0 [])) ≡ cut-end [] 0
     nil = refl
-
-pub cut-end-le : (s : List ℕ) (n : ℕ) → cut-end s n ≤ n
-unfolding cut-end
-cut-end-le s n =
-    let P : ℕ → Type 0 = λ (x : ℕ). x ≤ n in
-    on P (splits s n 1) (λ _. omega arith)
-    (λ _. on P (splits s n 2) (λ _. omega arith) (λ _. on P (splits s n 3) (λ _. omega arith) (λ _. omega arith)))

@@ -1,35 +1,26 @@
--- The laws of a search for one element: an ASCII character is found in the bytes where it is found in the characters.
+-- The laws of a search for one element, and of the parts before and after it: an ASCII character is found in the bytes where it is found in the characters.
 -- Assumes nothing.
 use Prim.Native.Nat.{ℕ, suc, _+_, _-_, _≤_, _<_}
 use mathlib.Core.Bool.{Bool, true, false, cond, not, _&&_}
-use mathlib.Core.Option.{none, some}
+use mathlib.Core.Option.{Option, none, some}
 use mathlib.Core.List.{List, [], _∷_, _++_, append-cancel-left}
-use mathlib.Core.Logic.{_⊎_, ⊎-elim}
+use mathlib.Core.Logic.{⊎-elim}
 use mathlib.Core.Path.{_≡_, refl, sym, ap, _∙_}
 use borrow.Author.Tests.{eqb-true, eqb-false, eq-eqb, ne-eqb, ltb-true, ltb-false, lt-ltb, le-ltb}
 use native.Mathlib.Omega.{arith}
 use lib.Dec.{ltb, eqb, leb·suc-suc}
-use lib.ListN.{length, getD, take, drop, drop-of-length-le, length-drop}
-use lib.Seq.{drop-drop, drop-append-seam, take-append-seam}
+use lib.ListN.{length, getD, take, drop, drop-of-length-le, length-drop, length-append}
+use lib.Seq.{drop-drop, drop-append-seam, take-append-seam, drop-append-add}
 use Rattle.text.specs.Utf8.{IsScalar, utf8, tail, char, stray, chars}
 use Rattle.text.specs.Words.{if_then_else_, _>>=_, index, take-while}
 use Rattle.text.specs.Run.{RunTo, other}
-use Rattle.text.specs.Find.{found}
+use Rattle.text.specs.Find.{found, until, since}
 use Rattle.text.specs.declared.Found.the-variants.{Here, Nowhere}
 use Rattle.text.specs.declared.Char.the-variants.{Bad}
 use Rattle.text.proofs.Tests.{decide, on, within-below}
-use Rattle.text.proofs.Utf8.{utf8-1, char-1}
+use Rattle.text.proofs.Utf8.{utf8-1}
 use Rattle.text.proofs.RunLaws.{at-stop, at-end}
-use Rattle.text.proofs.Laws.{by-chars, chars-nil, chars-utf8, chars-bad, chars-append, char-cut, Tails, Long, utf8-long}
-
--- what stands before the first b, and what stands from it on
-abbrev pub until : ℕ → List ℕ → List ℕ
-until b [] = []
-until b (x ∷ xs) = cond (eqb x b) [] (x ∷ until b xs)
-
-abbrev pub since : ℕ → List ℕ → List ℕ
-since b [] = []
-since b (x ∷ xs) = cond (eqb x b) (x ∷ xs) (since b xs)
+use Rattle.text.proofs.Laws.{by-chars, chars-nil, chars-utf8, chars-bad, chars-append, char-cut, Tails, Long, utf8-long, lost-high}
 
 pub until-since : (b : ℕ) (xs : List ℕ) → until b xs ++ since b xs ≡ xs
 until-since b [] = refl
@@ -65,15 +56,6 @@ module _ (b : ℕ) (low : b < 0x80) where
       (λ e. rw (utf8-1 c (ltb-true c 0x80 e), ne-eqb c b n))
       (λ e. until-long (utf8 c) zs (utf8-long c s (ltb-false c 0x80 e)))
       (decide (ltb c 0x80))
-
-  lost-high : (x : ℕ) (xs : List ℕ) → char (x ∷ xs) ≡ Bad → 0x80 ≤ x
-  lost-high x xs e =
-      ⊎-elim
-      (λ l.
-      let f = char-1 x xs (omega (arith, ltb-true x 0x80 l)) in
-      let z : _≡_ {A = ℕ} 0 1 = cc in absurd (omega arith))
-      (λ l. ltb-false x 0x80 l)
-      (decide (ltb x 0x80))
 
   pub chars-until : (bs : List ℕ) → chars (until b bs) ≡ until b (chars bs)
   chars-until =
@@ -126,6 +108,41 @@ index-until b (c ∷ s) = by (eqb c b) (index-until b s)
     by true ih = rw (lt-ltb 0 (suc (length s)) (omega arith))
     by false ih = rw ih (later (ltb (length (until b s)) (length s)) (length (until b s)) ∙ rw leb·suc-suc)
 
+pub index-none : (b : ℕ) (s : List ℕ) → since b s ≡ [] → index (b ∷ []) s ≡ none
+index-none b s e =
+    let q = ap length (until-since b s) in
+    index-until b s ∙ rw (le-ltb (length (until b s)) (length s) (omega (arith, length-append (until b s) (since b s), ap length e)))
+
+pub index-some : (b : ℕ) (s : List ℕ) → 0 < length (since b s) → index (b ∷ []) s ≡ some (length (until b s))
+index-some b s h =
+    let q = ap length (until-since b s) in
+    index-until b s ∙ rw (lt-ltb (length (until b s)) (length s) (omega (arith, length-append (until b s) (since b s))))
+
+-- the parts of a text at the first b
+pub take-until : (b : ℕ) (s : List ℕ) → take (length (until b s)) s ≡ until b s
+take-until b s = ap (take (length (until b s))) (sym (until-since b s)) ∙ take-append-seam (until b s) (since b s)
+
+pub drop-until : (b k : ℕ) (s : List ℕ) → drop (length (until b s) + k) s ≡ drop k (since b s)
+drop-until b k s = ap (drop (length (until b s) + k)) (sym (until-since b s)) ∙ drop-append-add (until b s) (since b s) k
+
+pub since-head : (b : ℕ) (s : List ℕ) → 0 < length (since b s) → getD (since b s) 0 0 ≡ b
+since-head b [] h = absurd (omega arith)
+since-head b (x ∷ s) h = go (since-head b s) (eqb x b) refl h
+  where
+    go : (0 < length (since b s) → getD (since b s) 0 0 ≡ b) → (t : Bool) → eqb x b ≡ t → 0 < length (cond t (x ∷ s) (since b s))
+        → getD (cond t (x ∷ s) (since b s)) 0 0 ≡ b
+    go ih true e h = eqb-true x b e
+    go ih false e h = ih h
+
+-- what an answer says of the search
+pub found-some : (i : ℕ) (o : Option ℕ) (k : ℕ) → found i o ≡ Here k → (n : ℕ) × (o ≡ some n) × (i + n ≡ k)
+found-some i none k e = (0, cc, cc)
+found-some i (some n) k e = (n, refl, cc)
+
+pub found-none : (i : ℕ) (o : Option ℕ) → found i o ≡ Nowhere → o ≡ none
+found-none i none e = refl
+found-none i (some n) e = cc
+
 pub found-is : (s : List ℕ) (i b j : ℕ) → i + length (until b (drop i s)) ≡ j → j < length s → found i (index (b ∷ []) (drop i s)) ≡ Here j
 found-is s i b j e l =
     rw (index-until b (drop i s), lt-ltb (length (until b (drop i s))) (length (drop i s)) (rw (length-drop i s) (omega arith)), e)
@@ -158,6 +175,15 @@ module _ (s : List ℕ) (i b j : ℕ) (h : RunTo (other b) s i j) where
 
   pub run-nowhere : length s ≤ j → found i (index (b ∷ []) (drop i s)) ≡ Nowhere
   run-nowhere l = nowhere-is s i b (rw (until-run b (drop i s)) (let e = at-end (other b) s i j h l in omega arith))
+
+  -- what is found from j on is found from i on
+  pub run-on : found j (index (b ∷ []) (drop j s)) ≡ found i (index (b ∷ []) (drop i s))
+  run-on =
+      let r : j + length (until b (drop j s)) ≡ i + length (until b (drop i s)) = rw (until-run b (drop j s), until-run b (drop i s)) (sym (h .run)) in
+      ⊎-elim
+      (λ t. let l = ltb-true (i + length (until b (drop i s))) (length s) t in found-is s j b _ r l ∙ sym (found-is s i b _ refl l))
+      (λ t. let l = ltb-false (i + length (until b (drop i s))) (length s) t in nowhere-is s j b (omega arith) ∙ sym (nowhere-is s i b l))
+      (decide (ltb (i + length (until b (drop i s))) (length s)))
 
 here-if : (i : ℕ) (t : Bool) (k j : ℕ) → found i (if t then some k else none) ≡ Here j → (t ≡ true) × (i + k ≡ j)
 here-if i true k j e = (refl, cc)

@@ -2,7 +2,7 @@
 -- Assumes nothing.
 use Prim.Native.Nat.{ℕ, zero, suc, _+_, _≤_, _<_}
 use mathlib.Core.Bool.{Bool, true, false, cond}
-use mathlib.Core.List.{List, [], _∷_, _++_, append-assoc, append-nil}
+use mathlib.Core.List.{List, [], _∷_, _++_, append-assoc, append-nil, reverse, reverseAux, reverse-cons, cons-ne-nil}
 use mathlib.Core.Option.{none, some}
 use mathlib.Core.Logic.{_⊎_, inl, inr, ⊎-elim, _↔_}
 use mathlib.Core.Path.{_≡_, refl, sym, ap, _∙_, subst}
@@ -10,11 +10,10 @@ use borrow.Author.Tests.{leb-true, le-leb, lt-leb, ltb-true, ltb-false}
 use native.Mathlib.Numerals.{add-one}
 use native.Mathlib.Omega.{arith}
 use lib.Dec.{leb, ltb}
-use lib.ListN.{length, getD, take, drop, length-append, length-drop, drop-of-length-le}
+use lib.ListN.{length, getD, take, drop, length-append, length-drop, drop-of-length-le, take-append-drop}
 use lib.Seq.{drop-append-seam, drop-drop, take-add, take-at, take-suc, drop-cons}
-use Rattle.text.specs.Chars.{within}
+use Rattle.text.specs.Chars.{within, is-scalar}
 use Rattle.text.specs.Words.{all}
-use Rattle.text.specs.Chars.{is-scalar}
 use Rattle.text.specs.Utf8.{size, IsScalar, Scalars, utf8, encode, tail, char-of, char, size-of, char-size, char-code, stray, scan, chars, code-at, is-utf8, decode}
 use Rattle.text.specs.declared.Char.{Char}
 use Rattle.text.specs.declared.Char.the-variants.{At, Bad, End}
@@ -46,6 +45,21 @@ scalars-is (c ∷ cs) h = simp (scalar-is c (h .0), scalars-is cs (h .1))
 pub scalars-append : (xs ys : List ℕ) → Scalars xs → Scalars ys → Scalars (xs ++ ys)
 scalars-append [] ys p q = q
 scalars-append (x ∷ xs) ys p q = (p .0, scalars-append xs ys (p .1) q)
+
+-- and in parts of a list
+pub scalars-split : (xs ys : List ℕ) → Scalars (xs ++ ys) → Scalars xs × Scalars ys
+scalars-split [] ys h = (tt, h)
+scalars-split (x ∷ xs) ys h = let p = scalars-split xs ys (h .1) in ((h .0, p .0), p .1)
+
+pub scalars-take : (n : ℕ) (cs : List ℕ) → Scalars cs → Scalars (take n cs)
+scalars-take n cs h = scalars-split (take n cs) (drop n cs) (subst Scalars (sym (take-append-drop n cs)) h) .0
+
+pub scalars-drop : (n : ℕ) (cs : List ℕ) → Scalars cs → Scalars (drop n cs)
+scalars-drop n cs h = scalars-split (take n cs) (drop n cs) (subst Scalars (sym (take-append-drop n cs)) h) .1
+
+pub scalars-reverse : (cs : List ℕ) → Scalars cs → Scalars (reverse cs)
+scalars-reverse [] h = tt
+scalars-reverse (c ∷ cs) h = rw (reverse-cons c cs) (scalars-append (reverse cs) (c ∷ []) (scalars-reverse cs (h .1)) (h .0, tt))
 
 -- ---- how long a character is
 pub utf8-size : (c : ℕ) → (1 ≤ length (utf8 c)) × (length (utf8 c) ≤ 4)
@@ -86,8 +100,18 @@ pub chars-utf8 : (c : ℕ) (bs : List ℕ) → IsScalar c → chars (utf8 c ++ b
 chars-utf8 c bs s =
     chars-at (utf8 c ++ bs) c (length (utf8 c)) (char-utf8 c bs s) ∙ rw (drop-append-seam (utf8 c) bs)
 
-pub not-nil : (b : ℕ) (bs : List ℕ) → b ∷ bs ≡ [] → ⊥
-not-nil b bs e = let z : _≡_ {A = ℕ} 0 1 = cc in omega arith
+pub chars-one : (c : ℕ) → IsScalar c → chars (utf8 c) ≡ c ∷ []
+chars-one c s = ap chars (sym (append-nil (utf8 c))) ∙ chars-utf8 c [] s ∙ rw chars-nil
+
+-- a byte that starts no character is not ASCII
+pub lost-high : (x : ℕ) (xs : List ℕ) → char (x ∷ xs) ≡ Bad → 0x80 ≤ x
+lost-high x xs e =
+    ⊎-elim
+    (λ l.
+    let f = char-1 x xs (omega (arith, ltb-true x 0x80 l)) in
+    let z : _≡_ {A = ℕ} 0 1 = cc in absurd (omega arith))
+    (λ l. ltb-false x 0x80 l)
+    (decide (ltb x 0x80))
 
 -- induction: what holds of no bytes, and with a character or a stray byte put in front, holds of all bytes
 module _
@@ -102,7 +126,7 @@ module _
         let d = char-at (b ∷ bs) c (suc n) e in
         subst P (sym (d .split)) (more c (drop n bs) (d .scalar) (f n))
     turn b bs f Bad e = lost b bs e (f 0)
-    turn b bs f End e = absurd (not-nil b bs (rw e at (sound (b ∷ bs))))
+    turn b bs f End e = absurd (cons-ne-nil b bs (rw e at (sound (b ∷ bs))))
 
     after : (k : ℕ) (bs : List ℕ) → P (drop k bs)
     after zero [] = none
@@ -117,9 +141,6 @@ module _
 pub encode-append : (xs ys : List ℕ) → encode (xs ++ ys) ≡ encode xs ++ encode ys
 encode-append [] ys = refl
 encode-append (x ∷ xs) ys = rw (encode-append xs ys) (sym (append-assoc (utf8 x) (encode xs) (encode ys)))
-
-pub utf8-ascii : (c : ℕ) → c < 0x80 → utf8 c ≡ c ∷ []
-utf8-ascii = utf8-1
 
 -- the characters of an encoding, and what follows it
 pub chars-encode-append : (cs bs : List ℕ) → Scalars cs → chars (encode cs ++ bs) ≡ cs ++ chars bs
@@ -141,9 +162,6 @@ encode-chars =
 
 pub encode-injective : (xs ys : List ℕ) → Scalars xs → Scalars ys → encode xs ≡ encode ys → xs ≡ ys
 encode-injective xs ys p q e = sym (chars-encode xs p) ∙ ap chars e ∙ chars-encode ys q
-
-pub chars-injective : (xs ys : List ℕ) → chars xs ≡ chars ys → xs ≡ ys
-chars-injective xs ys e = sym (encode-chars xs) ∙ ap encode e ∙ encode-chars ys
 
 -- bytes are decoded exactly to the scalar values whose encoding they are
 pub decode-encode : (cs : List ℕ) → Scalars cs → decode (encode cs) ≡ some cs
@@ -175,6 +193,11 @@ decode-true bs e = rw e
 pub decode-false : (bs : List ℕ) → is-utf8 bs ≡ false → decode bs ≡ none
 unfolding decode
 decode-false bs e = rw e
+
+-- bytes are UTF-8 where their characters are scalar values
+pub utf8-scalars : (bs : List ℕ) → is-utf8 bs ≡ true → Scalars (chars bs)
+unfolding is-utf8
+utf8-scalars bs e = scalars-true (chars bs) e
 
 -- a valid prefix, and the rest
 pub decode-append : (xs bs cs : List ℕ) → Scalars xs → decode bs ≡ some cs → decode (encode xs ++ bs) ≡ some (xs ++ cs)
@@ -219,6 +242,22 @@ utf8-long c s m =
     let k = top c s in
     rw (utf8-4 c l (omega arith))
     ((omega arith, omega arith), ((omega arith, omega arith), ((omega arith, omega arith), ((omega arith, omega arith), tt)))))
+
+-- no byte of them is ASCII
+abbrev pub High : List ℕ → Type 0
+High [] = Unit
+High (b ∷ bs) = (0x80 ≤ b) × High bs
+
+pub tails-high : (bs : List ℕ) → Tails bs → High bs
+tails-high [] h = tt
+tails-high (b ∷ bs) h = (h .0 .0, tails-high bs (h .1))
+
+pub utf8-high : (c : ℕ) → IsScalar c → 0x80 ≤ c → High (utf8 c)
+utf8-high c s m = by (utf8 c) (utf8-long c s m)
+  where
+    by : (bs : List ℕ) → Long bs → High bs
+    by [] h = absurd h
+    by (b ∷ bs) h = (omega arith, tails-high bs (h .1))
 
 tails-at : (bs : List ℕ) → Tails bs → (k : ℕ) → k < length bs → (0x80 ≤ getD bs k 0) × (getD bs k 0 ≤ 0xBF)
 tails-at [] h k l = absurd (omega arith)
@@ -321,20 +360,6 @@ some-char s i n e z = by (char (drop i s)) refl e
     by Bad h q = absurd (z q)
     by End h q = absurd (z q)
 
-pub size-none : (s : List ℕ) (i : ℕ) → i < length s → char-size (char (drop i s)) ≡ 0 → size-of (char (drop i s)) ≡ 1
-size-none s i l e =
-    ⊎-elim (λ h. ap size-of h)
-    (λ h. let d = rw h at (sound (drop i s)) in absurd (omega (arith, ap length d, length-drop i s)))
-    (no-char s i e)
-
-pub size-some : (s : List ℕ) (i : ℕ) → (char-size (char (drop i s)) ≡ 0 → ⊥) → char-size (char (drop i s)) ≡ size-of (char (drop i s))
-size-some s i z = by (char (drop i s)) z
-  where
-    by : (x : Char) → (char-size x ≡ 0 → ⊥) → char-size x ≡ size-of x
-    by (At c n) z = refl
-    by Bad z = absurd (z refl)
-    by End z = absurd (z refl)
-
 -- bytes that are left, and start no character, are not UTF-8
 pub stuck : (s : List ℕ) (i : ℕ) → i < length s → (char (drop i s) ≡ Bad) ⊎ (char (drop i s) ≡ End) → all is-scalar (chars (drop i s)) ≡ false
 stuck s i l (inl e) = simp (advance-bad s i e .1, stray-false (getD s i 0))
@@ -392,10 +417,6 @@ pos-next s i k n p h =
           ∙ ap (λ (l : List ℕ). encode (take k (chars s)) ++ l) (append-nil (utf8 (h .code))));
     }
 
--- no more characters than bytes are passed
-pub pos-end : (s : List ℕ) (i k : ℕ) → Pos s i k → length s ≤ i → length (chars s) ≤ k
-pos-end s i k p h = omega (arith, length-drop k (chars s), ap length (sym (p .left) ∙ advance-end s i h))
-
 -- ---- the code at an offset, and the turn of a loop that reads it
 code-first : (s : List ℕ) (i c : ℕ) (cs : List ℕ) → chars (drop i s) ≡ c ∷ cs → code-at s i ≡ c
 unfolding code-at
@@ -418,6 +439,23 @@ code-is s i l = by (char (drop i s)) refl
     by (At c n) e = code-char s i c n e
     by Bad e = code-bad s i e
     by End e = let d = rw e at (sound (drop i s)) in absurd (omega (arith, ap length d, length-drop i s))
+
+-- what stands at an offset, by the code there
+module _ (s : List ℕ) (i : ℕ) (l : i < length s) where
+  pub char-code-is : (code-at s i ≤ 0x10FFFF → char (drop i s) ≡ At (code-at s i) (length (utf8 (code-at s i)))) × (0x10FFFF < code-at s i → char (drop i s) ≡ Bad)
+  char-code-is = by (char (drop i s)) refl
+    where
+      by : (x : Char) → char (drop i s) ≡ x
+          → (code-at s i ≤ 0x10FFFF → x ≡ At (code-at s i) (length (utf8 (code-at s i)))) × (0x10FFFF < code-at s i → x ≡ Bad)
+      by (At c n) e =
+          let h = advance s i c n e in
+          let q = code-char s i c n e in
+          (λ _. rw (q, h .size), λ k. absurd (omega (arith, top c (h .scalar))))
+      by Bad e = let q = code-bad s i e in (λ k. absurd (omega arith), λ _. refl)
+      by End e = let d = rw e at (sound (drop i s)) in absurd (omega (arith, ap length d, length-drop i s))
+
+  pub size-code : size-of (char (drop i s)) ≡ length (utf8 (code-at s i))
+  size-code = let h = next-is s i l in sym (h .size) ∙ ap (λ (c : ℕ). length (utf8 c)) (sym (code-first s i (h .code) _ (h .rest)))
 
 pub record Turn (s : List ℕ) (i c : ℕ) : Type 0 where
   pub low : 1 ≤ length (utf8 c)
@@ -462,3 +500,8 @@ size-length (c ∷ cs) = let h = size-length cs in let k = utf8-size c in omega 
 
 pub chars-length : (bs : List ℕ) → length (chars bs) ≤ length bs
 chars-length bs = omega (arith, size-chars bs, size-length (chars bs))
+
+pub size-aux : (xs ys : List ℕ) → size (reverseAux xs ys) ≡ size xs + size ys
+unfolding size
+size-aux [] ys = omega arith
+size-aux (x ∷ xs) ys = omega (arith, size-aux xs (x ∷ ys))

@@ -1,3 +1,4 @@
+pub mod Lists
 pub mod Tests
 pub mod Utf8
 pub mod Laws
@@ -7,5 +8,6 @@ pub mod FindLaws
 pub mod PutLaws
 pub mod AsciiLaws
 pub mod CutLaws
+pub mod DecimalLaws
 pub mod Buffer
 pub mod Examples

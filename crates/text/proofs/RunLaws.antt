@@ -1,16 +1,16 @@
 -- The laws of the run of elements that a list starts with: one turn of a loop that passes over it, element by element or by blocks.
 -- Assumes nothing.
 use Prim.Native.Nat.{ℕ, zero, suc, _+_, _≤_, _<_}
-use mathlib.Core.Bool.{Bool, true, false, cond, _&&_}
+use mathlib.Core.Bool.{Bool, true, false, cond, _&&_, and-assoc, and-true as and-true-right}
 use mathlib.Core.List.{List, [], _∷_, _++_}
 use mathlib.Core.Path.{_≡_, refl, sym, ap, _∙_}
 use native.Mathlib.Numerals.{add-one}
 use native.Mathlib.Omega.{arith}
 use lib.ListN.{length, getD, take, drop, length-drop, drop-of-length-le}
-use lib.Seq.{drop-cons, drop-drop, take-suc}
+use lib.Seq.{drop-cons, drop-drop, take-suc, getD-drop}
 use Rattle.text.specs.Words.{all, take-while, drop-while}
 use Rattle.text.specs.Run.{RunTo}
-use Rattle.text.proofs.Tests.{on, and-true, and-assoc, and-true-right}
+use Rattle.text.proofs.Tests.{on, and-true}
 
 module _ (p : ℕ → Bool) where
   pub run-next : (s : List ℕ) (j : ℕ) → j < length s → p (getD s j 0) ≡ true
@@ -56,9 +56,13 @@ module _ (p : ℕ → Bool) where
   all-append (x ∷ xs) ys = ap (λ (t : Bool). p x && t) (all-append xs ys) ∙ sym (and-assoc (p x) (all p xs) (all p ys))
 
   -- one element more
-  pub all-next : (xs : List ℕ) (k : ℕ) → k < length xs → all p (take (k + 1) xs) ≡ all p (take k xs) && p (getD xs k 0)
+  all-next : (xs : List ℕ) (k : ℕ) → k < length xs → all p (take (k + 1) xs) ≡ all p (take k xs) && p (getD xs k 0)
   all-next xs k h =
       rw (add-one k, take-suc xs k 0 h, all-append (take k xs) (getD xs k 0 ∷ []), and-true-right (p (getD xs k 0)))
+
+  -- the next byte of a block that is tested byte by byte
+  pub block-next : (s : List ℕ) (i k : ℕ) (t : Bool) → i + k < length s → t ≡ all p (take k (drop i s)) → t && p (getD s (i + k) 0) ≡ all p (take (k + 1) (drop i s))
+  block-next s i k t h e = rw (e, ← getD-drop i s k 0) (sym (all-next (drop i s) k (omega (arith, length-drop i s))))
 
   pub run-block : (n : ℕ) (s : List ℕ) → n ≤ length s → all p (take n s) ≡ true
       → length (take-while p s) ≡ n + length (take-while p (drop n s))
@@ -87,9 +91,6 @@ module _ (p : ℕ → Bool) where
         let b = run-block n (drop j s) (omega (arith, length-drop j s)) e in
         let d = ap (λ (x : List ℕ). length (take-while p x)) (drop-drop n j s) in
         record { low = omega (arith, h .low); high = l; run = omega arith }
-
-    pub past-run : (j k : ℕ) → RunTo p s i j → RunTo p s j k → RunTo p s i k
-    past-run j k h l = record { low = omega (arith, h .low, l .low); high = l .high; run = h .run ∙ l .run }
 
     -- where it ends
     pub at-stop : (j : ℕ) → RunTo p s i j → j < length s → p (getD s j 0) ≡ false → i + length (take-while p (drop i s)) ≡ j

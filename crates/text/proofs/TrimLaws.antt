@@ -1,24 +1,25 @@
 -- The laws of `specs/Trim.antt`.
 -- Assumes nothing.
 use Prim.Native.Nat.{ℕ, zero, suc, _+_, _-_, _≤_, _<_}
-use mathlib.Core.Bool.{Bool, true, false, cond, _||_, true≢false}
+use mathlib.Core.Bool.{Bool, true, false, cond, _||_, true≢false, or-false, _&&_}
 use mathlib.Core.List.{List, [], _∷_, _++_, append-assoc, append-nil, reverse, reverse-cons, reverse-append, reverse-reverse}
 use mathlib.Core.Logic.{_⊎_, inl, inr, ⊎-elim}
 use mathlib.Core.Path.{_≡_, refl, sym, ap, _∙_}
-use borrow.Author.Tests.{ltb-true, ltb-false, leb-true, leb-false, eqb-true, eq-eqb, ne-eqb}
+use borrow.Author.Tests.{ltb-true, ltb-false, leb-true, leb-false, eqb-true, eq-eqb, ne-eqb, eqb-false, lt-ltb}
 use native.Mathlib.Omega.{arith}
 use lib.Dec.{leb, ltb, eqb}
 use lib.ListN.{length, getD, take, drop, length-append, length-drop, take-append-drop}
-use lib.Seq.{length-take-le, drop-at, take-append-seam}
+use lib.Seq.{length-take-le, drop-at, take-append-seam, take-length}
 use Rattle.text.specs.Words.{drop-while, trim-end-matches}
 use Rattle.text.specs.Chars.{within, is-space}
-use Rattle.text.specs.Utf8.{IsScalar, utf8, encode, char, stray, chars}
-use Rattle.text.specs.Trim.{trim-start, trim-end, start-of, end-of, is-space-of, space-at, space-before}
+use Rattle.text.specs.Utf8.{IsScalar, utf8, encode, char, stray, chars, code-at}
+use Rattle.text.specs.Trim.{trim-start, trim-end, start-of, end-of, is-space-of, space-at, space-before, trim}
 use Rattle.text.specs.declared.Char.{Char}
 use Rattle.text.specs.declared.Char.the-variants.{At, Bad, End}
-use Rattle.text.proofs.Tests.{decide, on, and-true, or-false, within-below, within-above}
+use Rattle.text.proofs.Tests.{decide, on, and-true, within-below, within-above}
 use Rattle.text.proofs.Utf8.{utf8-1, utf8-2, utf8-3, utf8-stray, ranges, char-utf8, char-ascii}
-use Rattle.text.proofs.Laws.{advance, by-chars, encode-chars, encode-append, chars-nil, chars-utf8, chars-bad, chars-append, utf8-lead, utf8-size}
+use Rattle.text.proofs.Laws.{advance, by-chars, encode-chars, encode-append, chars-nil, chars-utf8, chars-bad, chars-append, utf8-lead, utf8-size, chars-one, code-char, code-bad, code-end}
+use Rattle.text.proofs.Lists.{last-of}
 
 -- ---- spaces
 pub space-top : (c : ℕ) → 12288 < c → is-space c ≡ false
@@ -129,28 +130,16 @@ chars-start =
     (λ b bs e ih. rw (chars-bad b bs e, space-top (stray b) (omega arith), utf8-stray b, encode-chars bs) (chars-bad b bs e))
 
 -- ---- trimming the end: by the last character
-pub end-snoc : (cs : List ℕ) (c : ℕ) → trim-end (cs ++ (c ∷ [])) ≡ cond (is-space c) (trim-end cs) (cs ++ (c ∷ []))
+pub end-snoc : (p : ℕ → Bool) (cs : List ℕ) (c : ℕ) → trim-end-matches p (cs ++ (c ∷ [])) ≡ cond (p c) (trim-end-matches p cs) (cs ++ (c ∷ []))
 unfolding trim-end-matches drop-while
-end-snoc cs c =
+end-snoc p cs c =
     rw (reverse-append cs (c ∷ []))
-    (on (λ (l : List ℕ). reverse l ≡ cond (is-space c) (reverse (trim-start (reverse cs))) (cs ++ (c ∷ []))) (is-space c)
+    (on (λ (l : List ℕ). reverse l ≡ cond (p c) (reverse (drop-while p (reverse cs))) (cs ++ (c ∷ []))) (p c)
     (λ e. rw e) (λ e. rw e (reverse-cons c (reverse cs) ∙ rw (reverse-reverse cs))))
 
 pub end-at : (s : List ℕ) (e : ℕ) → e ≤ length s → trim-end (chars s) ≡ chars (take e s) → end-of s ≡ e
 unfolding end-of
 end-at s e h q = rw (q, encode-chars (take e s)) (length-take-le e s h)
-
--- a list is empty or has a last element
-last-of : (cs : List ℕ) → (cs ≡ []) ⊎ ((ds : List ℕ) × (c : ℕ) × (cs ≡ ds ++ (c ∷ [])))
-last-of [] = inl refl
-last-of (c ∷ cs) = inr (more (last-of cs))
-  where
-    more : (cs ≡ []) ⊎ ((ds : List ℕ) × (d : ℕ) × (cs ≡ ds ++ (d ∷ []))) → (ds : List ℕ) × (d : ℕ) × (c ∷ cs ≡ ds ++ (d ∷ []))
-    more (inl e) = ([], c, ap (λ (l : List ℕ). c ∷ l) e)
-    more (inr (ds, d, e)) = (c ∷ ds, d, ap (λ (l : List ℕ). c ∷ l) e)
-
-chars-one : (c : ℕ) → IsScalar c → chars (utf8 c) ≡ c ∷ []
-chars-one c s = ap chars (sym (append-nil (utf8 c))) ∙ chars-utf8 c [] s ∙ rw chars-nil
 
 -- ---- one step back: the character c of k bytes ends before byte e
 pub back : (s : List ℕ) (e c k : ℕ) → k ≤ e → char (drop (e - k) s) ≡ At c k → chars (take e s) ≡ chars (take (e - k) s) ++ (c ∷ [])
@@ -184,10 +173,10 @@ module _ (s : List ℕ) (e : ℕ) (l : 1 ≤ e) (h : e ≤ length s) (low : getD
   back-ascii = back s e (getD s (e - 1) 0) 1 l (char-ascii s (e - 1) (omega arith) low)
 
   pub end-low-space : is-space (getD s (e - 1) 0) ≡ true → trim-end (chars (take e s)) ≡ trim-end (chars (take (e - 1) s))
-  end-low-space q = ap trim-end back-ascii ∙ end-snoc (chars (take (e - 1) s)) (getD s (e - 1) 0) ∙ rw q
+  end-low-space q = ap trim-end back-ascii ∙ end-snoc is-space (chars (take (e - 1) s)) (getD s (e - 1) 0) ∙ rw q
 
   pub end-low-other : is-space (getD s (e - 1) 0) ≡ false → trim-end (chars (take e s)) ≡ chars (take e s)
-  end-low-other q = rw back-ascii (end-snoc (chars (take (e - 1) s)) (getD s (e - 1) 0) ∙ rw q)
+  end-low-other q = rw back-ascii (end-snoc is-space (chars (take (e - 1) s)) (getD s (e - 1) 0) ∙ rw q)
 
 pub end-nil : (s : List ℕ) (e : ℕ) → e ≤ 0 → trim-end (chars (take e s)) ≡ chars (take e s)
 unfolding trim-end-matches drop-while
@@ -200,6 +189,20 @@ space-of (At c n) k e =
     (c, p .0, ap (λ (m : ℕ). At c m) (eqb-true n k (p .1)))
 space-of Bad k e = let z : _≡_ {A = ℕ} 0 1 = cc in absurd (omega arith)
 space-of End k e = let z : _≡_ {A = ℕ} 0 1 = cc in absurd (omega arith)
+
+zero-space : is-space 0 ≡ false
+unfolding is-space
+zero-space = refl
+
+-- by the code there
+pub space-code : (s : List ℕ) (i k : ℕ) → space-at (drop i s) k ≡ (is-space (code-at s i) && eqb (length (utf8 (code-at s i))) k)
+unfolding space-at
+space-code s i k = by (char (drop i s)) refl
+  where
+    by : (x : Char) → char (drop i s) ≡ x → is-space-of x k ≡ (is-space (code-at s i) && eqb (length (utf8 (code-at s i))) k)
+    by (At c n) e = rw (code-char s i c n e, advance s i c n e .size)
+    by Bad e = rw (code-bad s i e, space-top (stray (getD s i 0)) (omega arith))
+    by End e = rw (code-end s i e, zero-space)
 
 module _ (s : List ℕ) (e : ℕ) where
   abbrev Q : ℕ → Bool
@@ -244,7 +247,7 @@ unfolding space-at
 end-space s e k r h =
     let f = rw (← r) at (found s e (rw (← r) h)) in
     let w = space-of (char (drop (e - k) s)) k (f .1) in
-    (f .0, ap trim-end (back s e (w .0) k (f .0) (w .2)) ∙ end-snoc (chars (take (e - k) s)) (w .0) ∙ rw (w .1))
+    (f .0, ap trim-end (back s e (w .0) k (f .0) (w .2)) ∙ end-snoc is-space (chars (take (e - k) s)) (w .0) ∙ rw (w .1))
 
 -- where none is found, all of the first e bytes stay
 pub end-other : (s : List ℕ) (e : ℕ) → e ≤ length s → space-before s e ≡ 0 → trim-end (chars (take e s)) ≡ chars (take e s)
@@ -259,7 +262,7 @@ end-other s e l z =
     let b = back-is s e c ds l sc q in
     let n = utf8-size c in
     absurd (not-found s e z (length (utf8 c)) (n .0) (space-size c (space-low c sp)) (b .0) (rw (b .1) (simp (sp, eq-eqb (length (utf8 c)) (length (utf8 c)) refl)))))
-    (λ sp. rw q (end-snoc ds c ∙ rw sp))
+    (λ sp. rw q (end-snoc is-space ds c ∙ rw sp))
     (decide (is-space c)))
     (last-of (chars (take e s)))
 
@@ -307,3 +310,32 @@ end-le s = let p = end-split s in omega (arith, simp length-append at (ap length
 pub take-end : (s : List ℕ) → take (end-of s) s ≡ encode (trim-end (chars s))
 unfolding end-of
 take-end s = let p = end-split s in ap (take (end-of s)) (sym (p .1)) ∙ take-append-seam (encode (trim-end (chars s))) (p .0)
+
+-- ---- what the end of a text loses leaves whole characters
+space-none : (s : List ℕ) (e : ℕ) → e < 1 → space-before s e ≡ 0
+unfolding space-before
+space-none s e h = rw (lt-ltb e 1 h)
+
+end-cut : (k : ℕ) (s : List ℕ) (e : ℕ) → e ≤ k → e ≤ length s → (n : ℕ) × (trim-end (chars (take e s)) ≡ chars (take n s))
+end-cut zero s e h l = (e, end-other s e l (space-none s e (omega arith)))
+end-cut (suc k) s e h l =
+    ⊎-elim
+    (λ z. (e, end-other s e l (eqb-true (space-before s e) 0 z)))
+    (λ z.
+    let n : 1 ≤ space-before s e = omega (arith, eqb-false (space-before s e) 0 z) in
+    let g = end-space s e (space-before s e) refl n in
+    let i = end-cut k s (e - space-before s e) (omega (arith, g .0)) (omega arith) in
+    (i .0, g .1 ∙ i .1))
+    (decide (eqb (space-before s e) 0))
+
+pub chars-end : (s : List ℕ) → chars (encode (trim-end (chars s))) ≡ trim-end (chars s)
+chars-end s =
+    let i = end-cut (length s) s (length s) (omega arith) (omega arith) in
+    let e = rw (take-length s) at (i .1) in
+    rw e (ap chars (encode-chars (take (i .0) s)))
+
+pub chars-trim : (s : List ℕ) → chars (encode (trim (chars s))) ≡ trim (chars s)
+chars-trim s =
+    ap (λ (x : List ℕ). chars (encode (trim-end x))) (sym (chars-start s))
+    ∙ chars-end (encode (trim-start (chars s)))
+    ∙ ap trim-end (chars-start s)

@@ -12,9 +12,10 @@ use lib.ListN.{length, getD, drop, drop-of-length-le}
 use lib.Seq.{drop-append-seam, drop-cons, getD-drop}
 use Rattle.text.specs.Words.{if_then_else_}
 use Rattle.text.specs.Chars.{within}
-use Rattle.text.specs.Utf8.{IsScalar, utf8, tail, row, starts3, starts4, given, join, char-of, char, char-size, stray}
+use Rattle.text.specs.Utf8.{IsScalar, utf8, tail, row, starts3, starts4, given, join, char-of, char, char-size, stray, FourAt}
 use Rattle.text.specs.declared.Char.{Char}
 use Rattle.text.specs.declared.Char.the-variants.{At, Bad, End}
+use Rattle.text.specs.declared.decoding.Four.{Four}
 use Rattle.text.proofs.Tests.{decide, on, or-elim, or-right, row-true, row-is, within-true, within-is, within-below, within-above}
 
 -- ---- the bytes of a character, by its range
@@ -78,7 +79,7 @@ pub record Three (a b c : ℕ) : Type 0 where
 abbrev pub value4 : ℕ → ℕ → ℕ → ℕ → ℕ
 value4 a b c d = join (join (join (a - 0xF0) b) c) d
 
-pub record Four (a b c d : ℕ) : Type 0 where
+pub record IsFour (a b c d : ℕ) : Type 0 where
   pub a-low : 0xF0 ≤ a
   pub a-high : a ≤ 0xF4
   pub b-low : 0x80 ≤ b
@@ -155,7 +156,7 @@ three a b c t =
     (λ r. let k = row-true 0xED 0xED 0x80 0x9F a b r in omega arith))
     (λ r. let k = row-true 0xEE 0xEF 0x80 0xBF a b r in omega arith)
 
-pub four : (a b c d : ℕ) → tail c ≡ true → tail d ≡ true → starts4 a b ≡ true → Four a b c d
+pub four : (a b c d : ℕ) → tail c ≡ true → tail d ≡ true → starts4 a b ≡ true → IsFour a b c d
 unfolding starts4
 four a b c d t u =
     let h = within-true 0x80 0xBF c t in
@@ -177,7 +178,7 @@ pub by-rows : (P : Char → Type 0) (a b c d : ℕ)
     → (a ≤ 0x7F → P (At a 1))
     → (Two a b → P (At (value2 a b) 2))
     → (Three a b c → P (At (value3 a b c) 3))
-    → (Four a b c d → P (At (value4 a b c d) 4))
+    → (IsFour a b c d → P (At (value4 a b c d) 4))
     → P Bad
     → P (char-of a b c d)
 unfolding char-of
@@ -237,9 +238,9 @@ module _ (a b c d n : ℕ) (e : n ≡ char-size (char-of a b c d)) where
       (λ q. absurd (omega arith))
       e
 
-  pub size-4 : 0 < n → n ≢ 1 → n ≢ 2 → n ≢ 3 → Four a b c d × (char-of a b c d ≡ At (value4 a b c d) n)
+  pub size-4 : 0 < n → n ≢ 1 → n ≢ 2 → n ≢ 3 → IsFour a b c d × (char-of a b c d ≡ At (value4 a b c d) n)
   size-4 l n1 n2 n3 =
-      by-rows (λ (x : Char). n ≡ char-size x → Four a b c d × (x ≡ At (value4 a b c d) n)) a b c d
+      by-rows (λ (x : Char). n ≡ char-size x → IsFour a b c d × (x ≡ At (value4 a b c d) n)) a b c d
       (λ _ q. absurd (n1 q))
       (λ _ q. absurd (n2 q))
       (λ _ q. absurd (n3 q))
@@ -278,7 +279,7 @@ decoded-3 a b c bs h =
     let z : 0x80 + v % 64 ≡ c = omega arith in
     is (a ∷ b ∷ c ∷ []) bs v (below-surrogates v (omega arith) (h .no-surrogate)) (utf8-3 v (h .long) (omega arith) ∙ cc)
 
-decoded-4 : (a b c d : ℕ) (bs : List ℕ) → Four a b c d → Decoded (a ∷ b ∷ c ∷ d ∷ bs) (value4 a b c d) 4
+decoded-4 : (a b c d : ℕ) (bs : List ℕ) → IsFour a b c d → Decoded (a ∷ b ∷ c ∷ d ∷ bs) (value4 a b c d) 4
 decoded-4 a b c d bs h =
     let v = value4 a b c d in
     let w : 0xF0 + v / 262144 ≡ a = omega arith in
@@ -463,3 +464,6 @@ char-drop s i h =
 
 pub char-ascii : (s : List ℕ) (i : ℕ) → i < length s → getD s i 0 < 0x80 → char (drop i s) ≡ At (getD s i 0) 1
 char-ascii s i l h = rw (drop-cons s i 0 l) (char-1 (getD s i 0) (drop (suc i) s) (omega arith))
+
+pub char-four : (s : List ℕ) (i : ℕ) (f : Four) → i < length s → FourAt s i f → char (drop i s) ≡ char-of (f .a) (f .b) (f .c) (f .d)
+char-four s i f l h = char-drop s i l ∙ rw (h .first, h .second, h .third, h .fourth)

@@ -1,7 +1,8 @@
 -- Classes of characters: White_Space and control, by document 01, "Characters"; Unicode scalar values; ASCII digits and letters.
 -- Assumes nothing.
-use Prim.Native.Nat.{ℕ, _+_}
+use Prim.Native.Nat.{ℕ, _+_, _<_}
 use mathlib.Core.Bool.{Bool, _&&_, _||_}
+use mathlib.Core.List.{List, [], _∷_}
 use lib.Dec.{leb, ltb, eqb}
 use Rattle.text.specs.Words.{if_then_else_}
 
@@ -25,6 +26,10 @@ is-scalar c = leb c 0xD7FF || within 0xE000 0x10FFFF c
 
 unfoldable pub is-ascii : ℕ → Bool
 is-ascii c = ltb c 0x80
+
+abbrev pub Ascii : List ℕ → Type 0
+Ascii [] = Unit
+Ascii (x ∷ xs) = (x < 0x80) × Ascii xs
 
 -- `is_ascii_digit`, `is_ascii_alphabetic`, `is_ascii_alphanumeric` and `to_ascii_lowercase`
 abbrev pub is-digit : ℕ → Bool

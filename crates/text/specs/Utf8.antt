@@ -7,11 +7,13 @@ use mathlib.Core.Bool.{Bool, _&&_, _||_}
 use mathlib.Core.List.{List, [], _∷_, _++_}
 use mathlib.Core.Option.{Option, none, some}
 use mathlib.Core.Logic.{_⊎_}
+use mathlib.Core.Path.{_≡_}
 use lib.Dec.{leb, ltb, eqb}
 use lib.ListN.{length, getD, drop}
 use Rattle.text.specs.Words.{if_then_else_, all}
 use Rattle.text.specs.Chars.{within, is-scalar}
 use Rattle.text.specs.declared.Char.{Char}
+use Rattle.text.specs.declared.decoding.Four.{Four}
 use Rattle.text.specs.declared.Char.the-variants.{At, Bad, End}
 
 -- a Unicode scalar value
@@ -129,3 +131,10 @@ is-utf8 bs = all is-scalar (chars bs)
 unfoldable pub decode : List ℕ → Option (List ℕ)
 unfolding is-utf8 chars scan char char-of starts3 starts4 is-scalar
 decode bs = if is-utf8 bs then some (chars bs) else none
+
+-- the four bytes from offset i on, with 0 past the end
+pub record FourAt (bs : List ℕ) (i : ℕ) (f : Four) : Type 0 where
+  pub first : f .a ≡ getD bs i 0
+  pub second : f .b ≡ getD bs (i + 1) 0
+  pub third : f .c ≡ getD bs (i + 2) 0
+  pub fourth : f .d ≡ getD bs (i + 3) 0

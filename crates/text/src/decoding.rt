@@ -4,10 +4,11 @@ ghost use mathlib.Core.Path.{_≡_};
 ghost use mathlib.Core.Bool.{true};
 ghost use lib.ListN.{length, getD, drop};
 ghost use Rattle.text.specs.Words.{if_then_else_};
-ghost use Rattle.text.specs.Utf8.{tail, row, starts3, starts4, join, char-of, char, size-of, char-size, char-code, code-at, is-utf8};
+ghost use Rattle.text.specs.Utf8.{tail, row, starts3, starts4, join, char-of, char, size-of, char-size, char-code, FourAt, code-at, is-utf8};
 use crate::Char;
 use crate::ascii::ascii_end;
 use crate::classes::within;
+use crate::encoding::width;
 
 // The byte at i, or 0 past the end.
 pub fn byte(s: &[u8], i: usize) -> u32
@@ -59,7 +60,7 @@ fn when(t: bool, n: usize) -> usize
 }
 
 // How many bytes the character has that the bytes a b c d start with; 0 where they start none.
-pub(crate) fn size_of(a: u32, b: u32, c: u32, d: u32) -> usize
+fn size_of(a: u32, b: u32, c: u32, d: u32) -> usize
     ensures { λ r. ⌜ r ≡ char-size (char-of a b c d) ⌝ }
 {
     if a <= 0x7F {
@@ -83,7 +84,7 @@ fn join(v: u32, b: u32) -> u32
 }
 
 // The character of n bytes that the bytes a b c d start with.
-pub(crate) fn code_of(n: usize, a: u32, b: u32, c: u32, d: u32) -> u32
+fn code_of(n: usize, a: u32, b: u32, c: u32, d: u32) -> u32
     requires { ⌜ (n ≡ char-size (char-of a b c d)) × (0 < n) ⌝ }
     ensures { λ r. ⌜ char-of a b c d ≡ Char.At r n ⌝ }
 {
@@ -99,19 +100,8 @@ pub(crate) fn code_of(n: usize, a: u32, b: u32, c: u32, d: u32) -> u32
     join(join(join(a - 0xF0, b), c), d)
 }
 
-// The character that the bytes a b c d start with.
-fn char_of(a: u32, b: u32, c: u32, d: u32) -> Char
-    ensures { λ r. ⌜ r ≡ char-of a b c d ⌝ }
-{
-    let n = size_of(a, b, c, d);
-    if n == 0 {
-        return Char::Bad;
-    }
-    Char::At(code_of(n, a, b, c, d), n)
-}
-
 // The code that the bytes a b c d start with: a character, or 0x110000 and the byte a.
-pub(crate) fn code_or_stray(a: u32, b: u32, c: u32, d: u32) -> u32
+fn code_or_stray(a: u32, b: u32, c: u32, d: u32) -> u32
     requires { ⌜ a < 0x100 ⌝ }
     ensures { λ r. ⌜ r ≡ char-code (char-of a b c d) a ⌝ }
 {
@@ -122,55 +112,42 @@ pub(crate) fn code_or_stray(a: u32, b: u32, c: u32, d: u32) -> u32
     code_of(n, a, b, c, d)
 }
 
-// The character at i.
-pub fn read(s: &[u8], i: usize) -> Char
-    ensures { λ r. ⌜ r ≡ char (drop i (now (s .entry))) ⌝ }
-{
-    if s.len() <= i {
-        return Char::End;
-    }
-    let a = s[i];
-    if a < 0x80 {
-        return Char::At(a as u32, 1);
-    }
-    char_of(byte(s, i), byte(s, i + 1), byte(s, i + 2), byte(s, i + 3))
+// Four bytes, with 0 for each that stands past the end.
+struct Four {
+    a: u32,
+    b: u32,
+    c: u32,
+    d: u32,
 }
 
-// How many bytes the character at i has; 0 where none starts. With four bytes from i on, so that none is tested for being there.
-fn size4(s: &[u8], i: usize) -> usize
-    requires { ⌜ i + 4 ≤ length (now s) ⌝ }
-    ensures { λ r. ⌜ r ≡ char-size (char (drop i (now (s .entry)))) ⌝ }
+// The bytes from i on. Where there are four, none is tested for being there.
+fn four_at(s: &[u8], i: usize) -> Four
+    requires { ⌜ i < length (now s) ⌝ }
+    ensures { λ r. ⌜ FourAt (now (s .entry)) i r ⌝ }
 {
-    size_of(wide(s[i]), wide(s[i + 1]), wide(s[i + 2]), wide(s[i + 3]))
+    if s.len() - i < 4 {
+        return Four {
+            a: byte(s, i),
+            b: byte(s, i + 1),
+            c: byte(s, i + 2),
+            d: byte(s, i + 3),
+        };
+    }
+    Four {
+        a: wide(s[i]),
+        b: wide(s[i + 1]),
+        c: wide(s[i + 2]),
+        d: wide(s[i + 3]),
+    }
 }
 
-// The same with fewer bytes.
-fn size_near_end(s: &[u8], i: usize) -> usize
+// How many bytes the character at i has; 0 where none starts.
+fn char_size(s: &[u8], i: usize) -> usize
     requires { ⌜ i < length (now s) ⌝ }
     ensures { λ r. ⌜ r ≡ char-size (char (drop i (now (s .entry)))) ⌝ }
 {
-    size_of(byte(s, i), byte(s, i + 1), byte(s, i + 2), byte(s, i + 3))
-}
-
-// How many bytes the character at i has: 1 for a byte that starts none, 0 at the end.
-pub fn size_at(s: &[u8], i: usize) -> usize
-    ensures { λ r. ⌜ r ≡ size-of (char (drop i (now (s .entry)))) ⌝ }
-{
-    if s.len() <= i {
-        return 0;
-    }
-    if s.len() - i < 4 {
-        let k = size_near_end(s, i);
-        if k == 0 {
-            return 1;
-        }
-        return k;
-    }
-    let n = size4(s, i);
-    if n == 0 {
-        return 1;
-    }
-    n
+    let f = four_at(s, i);
+    size_of(f.a, f.b, f.c, f.d)
 }
 
 // The code at i: a character, or 0x110000 and a byte that starts none; 0 at the end.
@@ -180,10 +157,32 @@ pub fn code_at(s: &[u8], i: usize) -> u32
     if s.len() <= i {
         return 0;
     }
-    if s.len() - i < 4 {
-        return code_or_stray(byte(s, i), byte(s, i + 1), byte(s, i + 2), byte(s, i + 3));
+    let f = four_at(s, i);
+    code_or_stray(f.a, f.b, f.c, f.d)
+}
+
+// The character at i.
+pub fn read(s: &[u8], i: usize) -> Char
+    ensures { λ r. ⌜ r ≡ char (drop i (now (s .entry))) ⌝ }
+{
+    if s.len() <= i {
+        return Char::End;
     }
-    code_or_stray(wide(s[i]), wide(s[i + 1]), wide(s[i + 2]), wide(s[i + 3]))
+    let c = code_at(s, i);
+    if 0x10FFFF < c {
+        return Char::Bad;
+    }
+    Char::At(c, width(c))
+}
+
+// How many bytes the character at i has: 1 for a byte that starts none, 0 at the end.
+pub fn size_at(s: &[u8], i: usize) -> usize
+    ensures { λ r. ⌜ r ≡ size-of (char (drop i (now (s .entry)))) ⌝ }
+{
+    if s.len() <= i {
+        return 0;
+    }
+    width(code_at(s, i))
 }
 
 // Whether all of s is UTF-8.
@@ -196,15 +195,7 @@ pub fn is_utf8(s: &[u8]) -> bool
             i = ascii_end(s, i);
             continue;
         }
-        if s.len() - i < 4 {
-            let k = size_near_end(s, i);
-            if k == 0 {
-                return false;
-            }
-            i += k;
-            continue;
-        }
-        let n = size4(s, i);
+        let n = char_size(s, i);
         if n == 0 {
             return false;
         }

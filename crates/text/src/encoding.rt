@@ -52,6 +52,26 @@ fn put4(out: &mut [u8], at: usize, c: u32)
     out[at + 3] = (0x80 + c % 64) as u8;
 }
 
+// Writes the character c at `at`, where it has room.
+fn store(out: &mut [u8], at: usize, c: u32)
+    requires { ⌜ (c < 0x110000) × (at + length (utf8 c) ≤ length (now out)) ⌝ }
+    ensures { λ r. ⌜ now (out .exit) ≡ sets (now (out .entry)) at (utf8 c) ⌝ }
+{
+    if c < 0x80 {
+        out[at] = c as u8;
+        return;
+    }
+    if c < 0x800 {
+        put2(out, at, c);
+        return;
+    }
+    if c < 0x10000 {
+        put3(out, at, c);
+        return;
+    }
+    put4(out, at, c);
+}
+
 // Writes the character c at `at`, and answers how many bytes that took: none where c is no character or has no room.
 pub fn put(out: &mut [u8], at: usize, c: u32) -> usize
     ensures { λ r. ⌜ (r ≡ put-size (length (now (out .entry))) at c) × (now (out .exit) ≡ put-at (now (out .entry)) at c) ⌝ }
@@ -67,18 +87,6 @@ pub fn put(out: &mut [u8], at: usize, c: u32) -> usize
     if n - k < at {
         return 0;
     }
-    if c < 0x80 {
-        out[at] = c as u8;
-        return 1;
-    }
-    if c < 0x800 {
-        put2(out, at, c);
-        return 2;
-    }
-    if c < 0x10000 {
-        put3(out, at, c);
-        return 3;
-    }
-    put4(out, at, c);
-    4
+    store(out, at, c);
+    k
 }

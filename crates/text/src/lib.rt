@@ -19,7 +19,6 @@ pub use decoding::read;
 pub use decoding::size_at;
 pub use encoding::put;
 pub use encoding::width;
-pub use parts::count;
 pub use parts::cut;
 pub use parts::cut_len;
 pub use parts::first;

@@ -71,19 +71,6 @@ pub fn cut(s: &[u8], n: usize) -> &[u8]
     &s[..e]
 }
 
-// How many characters s has.
-pub fn count(s: &[u8]) -> usize
-    ensures { λ r. ⌜ r ≡ length (chars (now (s .entry))) ⌝ }
-{
-    let mut i = 0;
-    let mut k = 0;
-    while i < s.len() {
-        i += size_at(s, i);
-        k += 1;
-    }
-    k
-}
-
 // The first n characters of s. Where no more bytes are left than characters may follow, all of s is taken.
 pub fn first(s: &[u8], n: usize) -> &[u8]
     ensures { λ r. ⌜ now r ≡ encode (take n (chars (now (s .entry)))) ⌝ }

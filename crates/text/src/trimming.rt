@@ -1,13 +1,10 @@
 // Spaces taken off the ends.
 ghost use mathlib.Core.Path.{_≡_};
 ghost use lib.ListN.{drop};
-ghost use Rattle.text.specs.Utf8.{char-of, chars, encode};
-ghost use Rattle.text.specs.Trim.{trim-start, trim-end, trim, start-of, end-of, is-space-of, space-at, space-before};
+ghost use Rattle.text.specs.Utf8.{chars, encode};
+ghost use Rattle.text.specs.Trim.{trim-start, trim-end, trim, start-of, end-of, space-at, space-before};
 use crate::classes::is_space;
-use crate::decoding::byte;
-use crate::decoding::code_of;
-use crate::decoding::code_or_stray;
-use crate::decoding::size_of;
+use crate::decoding::code_at;
 use crate::decoding::wide;
 use crate::encoding::width;
 
@@ -17,15 +14,7 @@ pub fn start_of(s: &[u8]) -> usize
 {
     let mut i = 0;
     while i < s.len() {
-        let b = s[i];
-        if b < 0x80 {
-            if !is_space(wide(b)) {
-                return i;
-            }
-            i += 1;
-            continue;
-        }
-        let c = code_or_stray(wide(b), byte(s, i + 1), byte(s, i + 2), byte(s, i + 3));
+        let c = code_at(s, i);
         if !is_space(c) {
             return i;
         }
@@ -34,31 +23,12 @@ pub fn start_of(s: &[u8]) -> usize
     i
 }
 
-// Whether a space of k bytes is what the bytes a b c d start with.
-fn is_space_of(a: u32, b: u32, c: u32, d: u32, k: usize) -> bool
-    ensures { λ r. ⌜ r ≡ is-space-of (char-of a b c d) k ⌝ }
-{
-    let n = size_of(a, b, c, d);
-    if n == 0 {
-        return false;
-    }
-    is_space(code_of(n, a, b, c, d)) & (n == k)
-}
-
 // Whether a space of k bytes stands at i.
 fn space_at(s: &[u8], i: usize, k: usize) -> bool
     ensures { λ r. ⌜ r ≡ space-at (drop i (now (s .entry))) k ⌝ }
 {
-    if s.len() <= i {
-        return false;
-    }
-    is_space_of(
-        byte(s, i),
-        byte(s, i + 1),
-        byte(s, i + 2),
-        byte(s, i + 3),
-        k,
-    )
+    let c = code_at(s, i);
+    is_space(c) & (width(c) == k)
 }
 
 // How many bytes the space has that ends before e; 0 where none does.

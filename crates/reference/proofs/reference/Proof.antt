@@ -7,9 +7,10 @@ use mathlib.Core.List.{List, [], _∷_}
 use mathlib.Core.Path.{sym, ap, _∙_}
 use lib.ListN.{take, drop}
 use Rattle.text.specs.Words.{index}
+use Rattle.text.proofs.FindLaws.{found-none}
 use Rattle.reference.specs.Unescape.{named}
 use Rattle.reference.specs.Answers.{answer}
-use Rattle.reference.proofs.AnswerLaws.{value-some, value-none, found-some, found-none}
+use Rattle.reference.proofs.AnswerLaws.{value-some, value-none, found-first}
 use Rattle.reference.proofs.StepLaws.{Near, near-none, near-some, near-left, near-replaced}
 use Rattle.reference.proofs.reference.Statement.{statement}
 use Rattle.reference.proofs.reference.Tie as tie
@@ -19,8 +20,7 @@ semicolon : (c : tie.After-n) → Near (drop (c .before .before .before .before 
 semicolon c =
     let b = c .before .before .before .before .before .args in
     near-some (drop (b .i) (b .s .now)) (c .n .given .0 .0)
-    (ap (λ (l : List ℕ). index (59 ∷ []) l) (sym (c .before .before .before .near .ensures))
-    ∙ found-some _ _ (sym (c .before .before .find .ensures) ∙ c .n .given .1))
+    (ap (λ (l : List ℕ). index (59 ∷ []) l) (sym (c .before .before .before .near .ensures)) ∙ found-first _ _ (sym (c .before .before .find .ensures) ∙ c .n .given .1))
 
 near-requires : tie.Need-near-requires
 near-requires c κs = search needs
@@ -35,7 +35,7 @@ enum-told : tie.Need-enum-told
 enum-told c = search needs
 
 returns : tie.Need-returns
-returns c = sym (ap answer (near-none (drop (c .before .before .before .before .before .args .i) (c .before .before .before .before .before .args .s .now)) (ap (λ (l : List ℕ). index (59 ∷ []) l) (sym (c .before .before .before .near .ensures)) ∙ found-none _ (sym (c .before .before .find .ensures) ∙ c .enum-told .given .1))))
+returns c = sym (ap answer (near-none (drop (c .before .before .before .before .before .args .i) (c .before .before .before .before .before .args .s .now)) (ap (λ (l : List ℕ). index (59 ∷ []) l) (sym (c .before .before .before .near .ensures)) ∙ found-none 0 _ (sym (c .before .before .find .ensures) ∙ c .enum-told .given .1))))
 
 slice-aggregate-named : tie.Need-slice-aggregate-named
 slice-aggregate-named c = rw (c .before .before .before .before .before .near .ensures) (sym (semicolon (c .before .before) .exact))

@@ -1,6 +1,5 @@
 -- `Converter::step` meets its contract.
 -- Assumes nothing.
-use mathlib.Core.Path.{_∙_}
 use Rattle.html.specs.State.{tag}
 use borrow.Author.Needs.{needs}
 use Rattle.html.proofs.Converter.step.Statement.{statement}

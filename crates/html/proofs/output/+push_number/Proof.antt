@@ -2,7 +2,8 @@
 -- Assumes nothing.
 use borrow.Author.Needs.{needs}
 use Rattle.html.proofs.GrowLaws.{all-len, decimal-ascii}
-use Rattle.html.proofs.NumberLaws.{decimal-small, decimal-large, number-small, number-large}
+use Rattle.text.proofs.DecimalLaws.{decimal-small, decimal-large}
+use Rattle.html.proofs.NumberLaws.{number-small, number-large}
 use Rattle.text.specs.Decimal.{decimal}
 use lib.ListN.{length, length-append}
 use mathlib.Core.List.{List, [], _∷_}

@@ -2,7 +2,6 @@
 -- Assumes nothing.
 use Prim.Native.Nat.{_≤_, _-_}
 use native.Mathlib.Omega.{arith}
-use borrow.Author.Needs.{needs}
 use mathlib.Core.Path.{_≡_, refl, sym, _∙_}
 use lib.ListN.{length, drop}
 use Rattle.text.specs.Words.{all}
@@ -11,6 +10,7 @@ use Rattle.text.specs.Utf8.{chars, is-utf8}
 use Rattle.text.proofs.Laws.{Step, advance-end, no-char, some-char, stuck, scalar-is}
 use Rattle.text.proofs.RunLaws.{run-next}
 use Rattle.text.proofs.AsciiLaws.{low-ascii, run-to}
+use borrow.Author.Needs.{needs}
 use Rattle.text.proofs.decoding.is_utf8.Statement.{statement}
 use Rattle.text.proofs.decoding.is_utf8.Tie as tie
 
@@ -20,12 +20,9 @@ Inv-loop s i₀ i = (all is-scalar (chars s) ≡ all is-scalar (chars (drop i s)
 abbrev μ-loop : tie.MeasureT-loop
 μ-loop s i₀ i = length s - i
 
--- the step over a character, near the end and elsewhere
-last-step : (c : tie.Else3 Inv-loop μ-loop) → (x : _) × Step (c .before .before .before .before .before .before .before .before .args .s .now) (c .before .before .before .before .before .before .loop .i) x (c .before .size-near-end .result)
-last-step c = some-char _ _ _ (c .before .size-near-end .ensures) (c .if3 .left)
-
-step : (c : tie.Else4 Inv-loop μ-loop) → (x : _) × Step (c .before .before .before .before .before .before .before .before .args .s .now) (c .before .before .before .before .before .before .loop .i) x (c .before .size4 .result)
-step c = some-char _ _ _ (c .before .size4 .ensures) (c .if4 .left)
+-- the step over a character
+step : (c : tie.Else2 Inv-loop μ-loop) → (x : _) × Step (c .before .before .before .before .before .before .before .args .s .now) (c .before .before .before .before .before .loop .i) x (c .before .char-size .result)
+step c = some-char _ _ _ (c .before .char-size .ensures) (c .if2 .left)
 
 loop-holds : tie.Need-loop-holds Inv-loop μ-loop
 loop-holds c = (refl, omega arith)
@@ -45,69 +42,27 @@ loop-less c =
 loop-again : tie.Need-loop-again Inv-loop μ-loop
 loop-again c = let r = run-to (c .before .before .before .before .before .before .args .s .now) (c .before .before .before .before .loop .i) (c .ascii-end .result) (omega arith) (c .ascii-end .ensures) in (c .before .before .before .before .loop .inv .0 ∙ r .0, r .2)
 
-sub-if2 : tie.Need-sub-if2 Inv-loop μ-loop
-sub-if2 c = omega arith
-
-size-near-end-requires : tie.Need-size-near-end-requires Inv-loop μ-loop
-size-near-end-requires c κs = omega arith
+char-size-requires : tie.Need-char-size-requires Inv-loop μ-loop
+char-size-requires c κs = omega arith
 
 returns : tie.Need-returns Inv-loop μ-loop
 unfolding is-utf8
-returns c = sym (c .before .before .before .before .before .before .loop .inv .0 ∙ stuck _ _ (c .before .before .before .before .before .loop-test .taken) (no-char (c .before .before .before .before .before .before .before .before .args .s .now) (c .before .before .before .before .before .before .loop .i) (sym (c .before .size-near-end .ensures) ∙ c .if3 .taken)))
+returns c = sym (c .before .before .before .before .before .loop .inv .0 ∙ stuck _ _ (c .before .before .before .before .loop-test .taken) (no-char (c .before .before .before .before .before .before .before .args .s .now) (c .before .before .before .before .before .loop .i) (sym (c .before .char-size .ensures) ∙ c .if2 .taken)))
 
 add-i : tie.Need-add-i Inv-loop μ-loop
-add-i c = let h = last-step c .1 in omega arith
+add-i c = let h = step c .1 in omega arith
 
 loop-less-2 : tie.Need-loop-less-2 Inv-loop μ-loop
-loop-less-2 c = let h = last-step c .1 in omega arith
+loop-less-2 c = let h = step c .1 in omega arith
 
 loop-again-2 : tie.Need-loop-again-2 Inv-loop μ-loop
 loop-again-2 c =
-    let h = last-step c .1 in
-    (c .before .before .before .before .before .before .loop .inv .0 ∙ rw (h .rest, scalar-is _ (h .scalar)), h .bound)
-
-size4-requires : tie.Need-size4-requires Inv-loop μ-loop
-size4-requires c κs = omega arith
+    let h = step c .1 in
+    (c .before .before .before .before .before .loop .inv .0 ∙ rw (h .rest, scalar-is _ (h .scalar)), h .bound)
 
 returns-2 : tie.Need-returns-2 Inv-loop μ-loop
 unfolding is-utf8
-returns-2 c = sym (c .before .before .before .before .before .before .loop .inv .0 ∙ stuck _ _ (c .before .before .before .before .before .loop-test .taken) (no-char (c .before .before .before .before .before .before .before .before .args .s .now) (c .before .before .before .before .before .before .loop .i) (sym (c .before .size4 .ensures) ∙ c .if4 .taken)))
-
-add-i-2 : tie.Need-add-i-2 Inv-loop μ-loop
-add-i-2 c = let h = step c .1 in omega arith
-
-loop-less-3 : tie.Need-loop-less-3 Inv-loop μ-loop
-loop-less-3 c = let h = step c .1 in omega arith
-
-loop-again-3 : tie.Need-loop-again-3 Inv-loop μ-loop
-loop-again-3 c =
-    let h = step c .1 in
-    (c .before .before .before .before .before .before .loop .inv .0 ∙ rw (h .rest, scalar-is _ (h .scalar)), h .bound)
-
-returns-3 : tie.Need-returns-3 Inv-loop μ-loop
-unfolding is-utf8
-returns-3 c = sym (c .before .loop .inv .0 ∙ rw (advance-end _ _ (c .loop-test .left)))
+returns-2 c = sym (c .before .loop .inv .0 ∙ rw (advance-end _ _ (c .loop-test .left)))
 
 pub is-utf8-spec : {M : Type 1} → statement M
-is-utf8-spec =
-    tie.close
-    (tie.spec
-    Inv-loop
-    μ-loop
-    loop-holds
-    shared-slice-read-if1
-    ascii-end-requires
-    loop-less
-    loop-again
-    sub-if2
-    size-near-end-requires
-    returns
-    add-i
-    loop-less-2
-    loop-again-2
-    size4-requires
-    returns-2
-    add-i-2
-    loop-less-3
-    loop-again-3
-    returns-3)
+is-utf8-spec = tie.close (tie.spec Inv-loop μ-loop loop-holds shared-slice-read-if1 ascii-end-requires loop-less loop-again char-size-requires returns add-i loop-less-2 loop-again-2 returns-2)

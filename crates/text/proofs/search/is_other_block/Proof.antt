@@ -1,13 +1,12 @@
 -- `text::is_other_block` meets its contract. The loop's invariant: whether the first k bytes of the block are others.
 -- Assumes nothing.
-use Prim.Native.Nat.{_-_, _≤_, _<_}
+use Prim.Native.Nat.{_-_, _≤_}
 use native.Mathlib.Omega.{arith}
-use mathlib.Core.Path.{_≡_, refl, sym, _∙_}
-use lib.ListN.{length, take, drop, length-drop}
-use lib.Seq.{getD-drop}
+use mathlib.Core.Path.{_≡_, refl, _∙_}
+use lib.ListN.{take, drop}
 use Rattle.text.specs.Words.{all}
 use Rattle.text.specs.Run.{other}
-use Rattle.text.proofs.RunLaws.{all-next}
+use Rattle.text.proofs.RunLaws.{block-next}
 use Rattle.text.proofs.search.is_other_block.Statement.{statement}
 use Rattle.text.proofs.search.is_other_block.Tie as tie
 
@@ -35,11 +34,8 @@ loop-less c = omega arith
 loop-again : tie.Need-loop-again Inv-loop μ-loop
 unfolding other
 loop-again c =
-    let s = c .before .before .before .args .s .now in
-    let i = c .before .before .before .args .i in
-    let k = c .before .before .loop .k in
-    let h : k < length (drop i s) = omega (arith, length-drop i s) in
-    (rw (c .before .before .loop .inv .0, ← getD-drop i s k 0) (sym (all-next (other (c .before .before .before .args .b)) (drop i s) k h)), omega arith)
+    let a = c .before .before .before .args in
+    (block-next (other (a .b)) (a .s .now) (a .i) (c .before .before .loop .k) _ (omega arith) (c .before .before .loop .inv .0), omega arith)
 
 returns : tie.Need-returns Inv-loop μ-loop
 returns c = let q : c .before .loop .k ≡ 16 = omega arith in c .before .loop .inv .0 ∙ rw q
