@@ -47,10 +47,13 @@ use Rattle.records.proofs.walker.BlockAnswer as S
 use Rattle.records.proofs.walker.BlockAnswer.Laws as S′
 use Rattle.records.proofs.walker.Walker.new as new
 use Rattle.records.proofs.walker.Walker.new.Symbol as new-def
+use Rattle.records.proofs.walker.Walker.new.Symbol.{name as #records·new}
 use Rattle.records.proofs.walker.Walker.new.Met as new-thm
 use Rattle.records.proofs.walker.Walker.block as block
 use Rattle.records.proofs.walker.Walker.block.Symbol as block-def
+use Rattle.records.proofs.walker.Walker.block.Symbol.{name as #records·block}
 use Rattle.records.proofs.walker.Walker.block.Met as block-thm
+use Rattle.records.proofs.walker.walk.Key.{name as #records·walk}
 use Rattle.records.proofs.walker.walk as walk
 use Rattle.records.proofs.walker.walk.Statement as stated
 use Rattle.records.proofs.walker.walk.Code as code

@@ -37,6 +37,7 @@ use Rattle.records.specs.declared.walker.Walker.{Walker}
 use Rattle.records.proofs.Held.{R, slice, Lent}
 use Rattle.records.proofs.walker.Walker as T
 use Rattle.records.proofs.walker.Walker.Laws as T′
+use Rattle.records.proofs.walker.Walker.new.Key.{name as #records·new}
 use Rattle.records.proofs.walker.Walker.new as new
 use Rattle.records.proofs.walker.Walker.new.Statement as stated
 use Rattle.records.proofs.walker.Walker.new.Code as code
