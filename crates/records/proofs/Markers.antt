@@ -3,12 +3,12 @@
 use Prim.Native.Nat.{ℕ, _+_, _-_, _<_, _≤_}
 use native.Mathlib.Omega.{arith}
 use mathlib.Core.Path.{_≡_, refl, sym, ap, _∙_}
-use mathlib.Core.Bool.{Bool, true, false, _&&_, false≢true}
+use mathlib.Core.Bool.{true, false, _&&_, false≢true}
 use mathlib.Core.Logic.{inl}
 use mathlib.Core.List.{List, [], _∷_}
 use lib.ListN.{length, drop, getD, drop-of-length-le}
 use lib.Dec.{leb, eqb}
-use borrow.Author.Tests.{eqb-true, eq-eqb, ne-eqb, leb-true, le-leb, lt-leb}
+use borrow.Author.Tests.{eqb-true, leb-true, le-leb, lt-leb}
 use Rattle.text.specs.Words.{same, str, starts-with}
 use Rattle.text.specs.Chars.{is-digit}
 use Rattle.text.specs.Utf8.{Scalars, utf8, size, chars}
