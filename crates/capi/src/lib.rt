@@ -129,14 +129,7 @@ pub struct Tested {
     pub characters: usize,
 }
 
-fn block(
-    number: u32,
-    kind: u32,
-    level: usize,
-    depth: usize,
-    count: usize,
-    next: usize,
-) -> BlockAt
+fn block(number: u32, kind: u32, level: usize, depth: usize, count: usize, next: usize) -> BlockAt
     ensures { λ r. ⌜ r ≡ block-of number kind level depth count next ⌝ }
 {
     BlockAt {

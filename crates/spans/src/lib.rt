@@ -1,6 +1,6 @@
 // The spans of a line: bold, italic, code, links and images, read from the line's bytes and written as records.
 ghost use mathlib.Core.Path.{_≡_};
-ghost use Prim.Native.Nat.{_+_, _*_, _^_, _-_, _≤_, _<_};
+ghost use Prim.Native.Nat.{_+_, _*_, _^_, _<_};
 ghost use mathlib.Core.Bool.{Bool, true, false, _||_};
 ghost use lib.ListN.{length, set, getD};
 ghost use lib.Seq.{sets};

@@ -103,19 +103,22 @@ returns : tie.Need-returns Inv-close μ-close Inv-one μ-one Inv-end μ-end Inv-
 returns c = (no-close _ _ _ (c .before .before .before .close .inv .0) (c .before .before .if1 .taken), note-close _ _ (c .before .before .before .close .inv .1) _ _ (c .before .before .before .close .inv .0) _ (c .note .ensures))
 
 returns-2 : tie.Need-returns-2 Inv-close μ-close Inv-one μ-one Inv-end μ-end Inv-all μ-all
-returns-2 c =
-    (no-paren _ _ _ (c .before .before .before .before .before .before .before .before .close .inv .0) (c .before .before .before .before .before .before .before .if1 .left) (c .before .before .before .before .before .if2 .taken) (λ e. c .if3 .taken (c .before .byte .ensures ∙ e)),
-    note-close _ _ (c .before .before .before .before .before .before .before .before .close .inv .1) _ _ (c .before .before .before .before .before .before .before .before .close .inv .0) _ (c .before .before .before .note2 .ensures))
+returns-2 c = (
+  no-paren _ _ _ (c .before .before .before .before .before .before .before .before .close .inv .0) (c .before .before .before .before .before .before .before .if1 .left) (c .before .before .before .before .before .if2 .taken) (λ e. c .if3 .taken (c .before .byte .ensures ∙ e)),
+  note-close _ _ (c .before .before .before .before .before .before .before .before .close .inv .1) _ _ (c .before .before .before .before .before .before .before .before .close .inv .0) _ (c .before .before .before .note2 .ensures),
+)
 
 returns-3 : tie.Need-returns-3 Inv-close μ-close Inv-one μ-one Inv-end μ-end Inv-all μ-all
-returns-3 c =
-    (no-end _ _ _ (c .before .before .before .before .before .before .before .before .before .before .before .before .before .before .close .inv .0) (c .before .before .before .before .before .before .before .before .before .before .before .before .before .if1 .left) (c .before .before .before .before .before .before .before .before .before .before .before .if2 .taken) (sym (c .before .before .before .before .before .before .before .byte .ensures) ∙ c .before .before .before .before .before .before .if3 .left) _ (c .before .before .before .end .inv .0) (c .before .before .if4 .taken),
-    note-end _ _ (c .before .before .before .end .inv .1) _ _ (c .before .before .before .end .inv .0) _ (c .note3 .ensures))
+returns-3 c = (
+  no-end _ _ _ (c .before .before .before .before .before .before .before .before .before .before .before .before .before .before .close .inv .0) (c .before .before .before .before .before .before .before .before .before .before .before .before .before .if1 .left) (c .before .before .before .before .before .before .before .before .before .before .before .if2 .taken) (sym (c .before .before .before .before .before .before .before .byte .ensures) ∙ c .before .before .before .before .before .before .if3 .left) _ (c .before .before .before .end .inv .0) (c .before .before .if4 .taken),
+  note-end _ _ (c .before .before .before .end .inv .1) _ _ (c .before .before .before .end .inv .0) _ (c .note3 .ensures),
+)
 
 returns-4 : tie.Need-returns-4 Inv-close μ-close Inv-one μ-one Inv-end μ-end Inv-all μ-all
-returns-4 c =
-    (closed _ _ _ (c .before .before .before .before .before .before .before .before .before .before .before .before .before .before .before .before .close .inv .0) (c .before .before .before .before .before .before .before .before .before .before .before .before .before .before .before .if1 .left) (c .before .before .before .before .before .before .before .before .before .before .before .before .before .if2 .taken) (sym (c .before .before .before .before .before .before .before .before .before .byte .ensures) ∙ c .before .before .before .before .before .before .before .before .if3 .left) _ (c .before .before .before .before .before .end .inv .0) (c .before .before .before .before .if4 .left) (c .before .before .if5 .taken),
-    note-end _ _ (c .before .before .before .before .before .end .inv .1) _ _ (c .before .before .before .before .before .end .inv .0) _ (c .note4 .ensures))
+returns-4 c = (
+  closed _ _ _ (c .before .before .before .before .before .before .before .before .before .before .before .before .before .before .before .before .close .inv .0) (c .before .before .before .before .before .before .before .before .before .before .before .before .before .before .before .if1 .left) (c .before .before .before .before .before .before .before .before .before .before .before .before .before .if2 .taken) (sym (c .before .before .before .before .before .before .before .before .before .byte .ensures) ∙ c .before .before .before .before .before .before .before .before .if3 .left) _ (c .before .before .before .before .before .end .inv .0) (c .before .before .before .before .if4 .left) (c .before .before .if5 .taken),
+  note-end _ _ (c .before .before .before .before .before .end .inv .1) _ _ (c .before .before .before .before .before .end .inv .0) _ (c .note4 .ensures),
+)
 
 pub find-link-spec : {M : Type 1} → statement M
 find-link-spec = tie.close (tie.spec Inv-close μ-close Inv-one μ-one Inv-end μ-end Inv-all μ-all link-holds resume-requires close-holds note-requires shared-slice-read-if2 add-i close-less close-again note-requires-2 paren-holds add-byte byte-requires add-target resume-requires-2 end-holds note-requires-3 shared-slice-read-if5 add-j end-less end-again note-requires-4 returns returns-2 returns-3 returns-4)
