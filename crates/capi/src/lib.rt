@@ -23,7 +23,7 @@ pub struct Written {
     pub length: usize,
 }
 
-fn written(number: u32, length: usize) -> Written
+fn answered(number: u32, length: usize) -> Written
     ensures { λ r. ⌜ r ≡ written-of number length ⌝ }
 {
     Written { number, length }
@@ -33,11 +33,11 @@ fn page_written(a: html::Answer) -> Written
     ensures { λ r. ⌜ r ≡ page-struct a ⌝ }
 {
     match a {
-        html::Answer::Length(n) => written(0, n),
-        html::Answer::NotUtf8 => written(1, 0),
-        html::Answer::SmallWork => written(2, 0),
-        html::Answer::SmallResult => written(3, 0),
-        html::Answer::TooManyLists => written(4, 0),
+        html::Answer::Length(n) => answered(0, n),
+        html::Answer::NotUtf8 => answered(1, 0),
+        html::Answer::SmallWork => answered(2, 0),
+        html::Answer::SmallResult => answered(3, 0),
+        html::Answer::TooManyLists => answered(4, 0),
     }
 }
 
@@ -55,11 +55,11 @@ fn markdown_written(a: markdown::Answer) -> Written
     ensures { λ r. ⌜ r ≡ markdown-struct a ⌝ }
 {
     match a {
-        markdown::Answer::Length(n) => written(0, n),
-        markdown::Answer::NotUtf8 => written(1, 0),
-        markdown::Answer::SmallWork => written(2, 0),
-        markdown::Answer::TooLong => written(5, 0),
-        markdown::Answer::SmallResult => written(6, 0),
+        markdown::Answer::Length(n) => answered(0, n),
+        markdown::Answer::NotUtf8 => answered(1, 0),
+        markdown::Answer::SmallWork => answered(2, 0),
+        markdown::Answer::TooLong => answered(5, 0),
+        markdown::Answer::SmallResult => answered(6, 0),
     }
 }
 

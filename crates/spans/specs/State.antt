@@ -61,6 +61,10 @@ head m (suc n) = m ∷ le32 (suc n)
 abbrev pub moved-to : State → ℕ → Bool → Bool → State
 moved-to w i b t = record { i = i; at = w .at; len = w .len; count = w .count; bold = b; italic = t }
 
+-- the state after spans that end at another place, with no pending text
+abbrev pub ended-at : State → ℕ → ℕ → ℕ → State
+ended-at w i at count = record { i = i; at = at; len = 0; count = count; bold = w .bold; italic = w .italic }
+
 -- a byte more of pending text
 abbrev pub push-of : State → ℕ → State
 push-of w used = record { i = w .i + used; at = w .at; len = w .len + 1; count = w .count; bold = w .bold; italic = w .italic }
@@ -68,7 +72,7 @@ push-of w used = record { i = w .i + used; at = w .at; len = w .len + 1; count =
 -- pending text of n bytes, ended
 abbrev pub flush-by : ℕ → State → State
 flush-by zero w = w
-flush-by (suc n) w = record { i = w .i; at = w .at + 5 + w .len; len = 0; count = w .count + 1; bold = w .bold; italic = w .italic }
+flush-by (suc n) w = ended-at w (w .i) (w .at + 5 + w .len) (w .count + 1)
 
 abbrev pub flush-of : State → State
 flush-of w = flush-by (w .len) w
@@ -78,8 +82,7 @@ abbrev pub code-span : State → List ℕ → Span
 code-span w t = span true (at (w .bold) (w .italic) []) t
 
 abbrev pub code-of : State → ℕ → Bool → Bool → List ℕ → State
-code-of w next b i t =
-    record { i = next; at = w .at + length (record-of b i (code-span w t)); len = 0; count = w .count + 1; bold = w .bold; italic = w .italic }
+code-of w next b i t = ended-at w next (w .at + length (record-of b i (code-span w t))) (w .count + 1)
 
 -- how many bytes pending text of n bytes takes with its head
 abbrev pub pend : ℕ → ℕ
@@ -89,8 +92,7 @@ pend (suc n) = 5 + suc n
 -- a link, whose label gave n spans
 abbrev pub link-by : ℕ → State → Written → ℕ → State
 link-by zero w label next = moved-to w next (w .bold) (w .italic)
-link-by (suc n) w label next =
-    record { i = next; at = label .next; len = 0; count = flush-of w .count + label .count; bold = w .bold; italic = w .italic }
+link-by (suc n) w label next = ended-at w next (label .next) (flush-of w .count + label .count)
 
 abbrev pub link-to : State → Written → ℕ → State
 link-to w label next = link-by (label .count) w label next

@@ -1,6 +1,6 @@
 // The spans of a line: bold, italic, code, links and images, read from the line's bytes and written as records.
 ghost use mathlib.Core.Path.{_≡_};
-ghost use Prim.Native.Nat.{_+_, _*_, _^_, _-_, _≤_, _<_};
+ghost use Prim.Native.Nat.{_+_, _*_, _^_, _<_};
 ghost use mathlib.Core.Bool.{Bool, true, false, _||_};
 ghost use lib.ListN.{length, set, getD};
 ghost use lib.Seq.{sets};
@@ -9,7 +9,7 @@ ghost use Rattle.records.specs.Format.{span-map, encode-spans};
 ghost use Rattle.spans.specs.Spans.{spans};
 ghost use Rattle.spans.specs.Line.{line-spans};
 ghost use Rattle.spans.specs.Turn.{record-of, records-of};
-ghost use Rattle.spans.specs.State.{next-at, link-at, Known, resumed, head, moved-to, push-of, flush-of, code-span, code-of, pend, link-to, link-head, Ready, Does};
+ghost use Rattle.spans.specs.State.{next-at, link-at, Known, resumed, head, moved-to, ended-at, push-of, flush-of, code-span, code-of, pend, link-to, link-head, Ready, Does};
 use records::writer::put;
 use records::writer::put_bytes;
 use records::writer::put_head;
@@ -152,6 +152,19 @@ fn moved(w: State, i: usize, bold: bool, italic: bool) -> State
     }
 }
 
+// The state after spans that end at `at`: no text is pending.
+fn ended(w: State, i: usize, at: usize, count: usize) -> State
+    ensures { λ r. ⌜ r ≡ ended-at w i at count ⌝ }
+{
+    State {
+        i,
+        at,
+        len: 0,
+        count,
+        ..w
+    }
+}
+
 // A byte joins the pending text.
 fn push(w: State, c: u8, used: usize, out: &mut [u8]) -> State
     requires { ⌜ (w .at + w .len < 2 ^ 63) × (w .i + used < 2 ^ 63) ⌝ }
@@ -176,12 +189,7 @@ fn flush(w: State, bold: bool, italic: bool, out: &mut [u8]) -> State
     }
     let map = span_map(either(w.bold, bold), either(w.italic, italic), false, true);
     put_head(out, w.at, map, w.len);
-    State {
-        at: w.at + 5 + w.len,
-        len: 0,
-        count: w.count + 1,
-        ..w
-    }
+    ended(w, w.i, w.at + 5 + w.len, w.count + 1)
 }
 
 // A span of code.
@@ -196,26 +204,12 @@ fn put_code(w: State, text: &[u8], next: usize, bold: bool, italic: bool, out: &
     let count = w.count + 1;
     if n == 0 {
         put(out, w.at, span_map(b, i, true, false));
-        let at = w.at + 1;
-        return State {
-            i: next,
-            at,
-            len: 0,
-            count,
-            ..w
-        };
+        return ended(w, next, w.at + 1, count);
     }
     put_head(out, w.at, span_map(b, i, true, true), n);
     let start = w.at + 5;
     put_bytes(out, start, text);
-    let at = start + n;
-    State {
-        i: next,
-        at,
-        len: 0,
-        count,
-        ..w
-    }
+    ended(w, next, start + n, count)
 }
 
 // Where the pending text ends.
@@ -335,13 +329,7 @@ fn join_label(
         return moved(w, next, w.bold, w.italic);
     }
     let f = flush(w, bold, italic, out);
-    State {
-        i: next,
-        at: label.next,
-        len: 0,
-        count: f.count + label.count,
-        ..w
-    }
+    ended(w, next, label.next, f.count + label.count)
 }
 
 // Writes the records of the spans of a line from `at` on, as far as there is room; the emphasis `bold` and `italic` stands around them.

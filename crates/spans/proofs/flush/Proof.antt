@@ -26,39 +26,29 @@ span-map-requires c κs = search needs
 put-head-requires : tie.Need-put-head-requires
 put-head-requires c κs = search needs
 
-add-t11 : tie.Need-add-t11
-add-t11 c = search needs
+add-ended : tie.Need-add-ended
+add-ended c = search needs
 
-add-t12 : tie.Need-add-t12
-add-t12 c = search needs
+add-ended-2 : tie.Need-add-ended-2
+add-ended-2 c = search needs
 
-add-t13 : tie.Need-add-t13
-add-t13 c = search needs
+add-ended-3 : tie.Need-add-ended-3
+add-ended-3 c = search needs
+
+ended-requires : tie.Need-ended-requires
+ended-requires c κs = search needs
 
 same-length : tie.Need-same-length
 same-length c = search needs
 
 returns-2 : tie.Need-returns-2
-returns-2 c = let a = c .before .before .before .before .before .before .before .before .before .before .before .before .before .args in
-    let ne = c .before .before .before .before .before .before .before .before .before .before .if1 .left in (
-      flush-some (a .w .len) (a .w) ne,
-      c .before .before .before .before .before .put-head .ensures
-          ∙ ap (sets (a .out .now) (a .w .at))
-          (ap (λ (m : ℕ). m ∷ le32 (a .w .len)) (c .before .before .before .before .before .before .before .span-map .ensures ∙ ap₂ (λ (x y : Bool). span-map x y false true) (c .before .before .before .before .before .before .before .before .before .either .ensures) (c .before .before .before .before .before .before .before .before .either2 .ensures))
-          ∙ head-some _ _ ne),
+returns-2 c =
+    let a = c .before .before .before .before .before .before .before .before .before .before .before .before .before .before .args in
+    let ne = c .before .before .before .before .before .before .before .before .before .before .before .if1 .left in
+    let m = c .before .before .before .before .before .before .before .before .span-map .ensures ∙ ap₂ (λ (x y : Bool). span-map x y false true) (c .before .before .before .before .before .before .before .before .before .before .either .ensures) (c .before .before .before .before .before .before .before .before .before .either2 .ensures) in (
+      c .ended .ensures ∙ flush-some (a .w .len) (a .w) ne,
+      c .before .before .before .before .before .before .put-head .ensures ∙ ap (sets (a .out .now) (a .w .at)) (ap (λ (k : ℕ). k ∷ le32 (a .w .len)) m ∙ head-some _ _ ne),
     )
 
 pub flush-spec : {M : Type 1} → statement M
-flush-spec =
-    tie.close
-    (tie.spec
-    returns
-    either-requires
-    either-requires-2
-    span-map-requires
-    put-head-requires
-    add-t11
-    add-t12
-    add-t13
-    same-length
-    returns-2)
+flush-spec = tie.close (tie.spec returns either-requires either-requires-2 span-map-requires put-head-requires add-ended add-ended-2 add-ended-3 ended-requires same-length returns-2)

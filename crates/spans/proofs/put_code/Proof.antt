@@ -23,17 +23,21 @@ span-map-requires c κs = search needs
 put-requires : tie.Need-put-requires
 put-requires c κs = search needs
 
-add-at : tie.Need-add-at
-add-at c = search needs
+add-ended : tie.Need-add-ended
+add-ended c = search needs
+
+ended-requires : tie.Need-ended-requires
+ended-requires c κs = search needs
 
 same-length : tie.Need-same-length
 same-length c = search needs
 
 returns : tie.Need-returns
-returns c = let a = c .before .before .before .before .before .before .before .before .before .before .before .before .args in
-    let m = c .before .before .before .before .span-map .ensures ∙ ap₂ (λ (x y : Bool). span-map x y true false) (c .before .before .before .before .before .before .before .before .before .either .ensures) (c .before .before .before .before .before .before .before .before .either2 .ensures) in
-    let both = code-empty (a .bold) (a .italic) (a .w) (a .out .now) _ _ (a .text .now) (c .before .before .before .before .before .before .if1 .taken) m (c .before .before .before .put .ensures) in
-    (same-state refl (both .0) refl refl refl refl, both .1)
+returns c =
+    let a = c .before .before .before .before .before .before .before .before .before .before .before .before .before .args in
+    let m = c .before .before .before .before .before .span-map .ensures ∙ ap₂ (λ (x y : Bool). span-map x y true false) (c .before .before .before .before .before .before .before .before .before .before .either .ensures) (c .before .before .before .before .before .before .before .before .before .either2 .ensures) in
+    let both = code-empty (a .bold) (a .italic) (a .w) (a .out .now) _ _ (a .text .now) (c .before .before .before .before .before .before .before .if1 .taken) m (c .before .before .before .before .put .ensures) in
+    (c .ended .ensures ∙ same-state refl (both .0) refl refl refl refl, both .1)
 
 span-map-requires-2 : tie.Need-span-map-requires-2
 span-map-requires-2 c κs = search needs
@@ -47,34 +51,21 @@ add-start c = search needs
 put-bytes-requires : tie.Need-put-bytes-requires
 put-bytes-requires c κs = search needs
 
-add-at-2 : tie.Need-add-at-2
-add-at-2 c = search needs
+add-ended-2 : tie.Need-add-ended-2
+add-ended-2 c = search needs
+
+ended-requires-2 : tie.Need-ended-requires-2
+ended-requires-2 c κs = search needs
 
 same-length-2 : tie.Need-same-length-2
 same-length-2 c = search needs
 
 returns-2 : tie.Need-returns-2
-returns-2 c = let a = c .before .before .before .before .before .before .before .before .before .before .before .before .before .before .before .before .args in
-    let m = c .before .before .before .before .before .before .before .before .span-map2 .ensures ∙ ap₂ (λ (x y : Bool). span-map x y true true) (c .before .before .before .before .before .before .before .before .before .before .before .before .before .either .ensures) (c .before .before .before .before .before .before .before .before .before .before .before .before .either2 .ensures) in
-    let both = code-some (a .bold) (a .italic) (a .w) (a .out .now) _ _ (a .text .now) _ (c .before .before .before .before .before .before .before .before .before .before .if1 .left) m (c .before .before .before .before .before .before .before .put-head .ensures) (c .before .before .put-bytes .ensures) in
-    (same-state refl (both .0) refl refl refl refl, both .1)
+returns-2 c =
+    let a = c .before .before .before .before .before .before .before .before .before .before .before .before .before .before .before .before .before .args in
+    let m = c .before .before .before .before .before .before .before .before .before .span-map2 .ensures ∙ ap₂ (λ (x y : Bool). span-map x y true true) (c .before .before .before .before .before .before .before .before .before .before .before .before .before .before .either .ensures) (c .before .before .before .before .before .before .before .before .before .before .before .before .before .either2 .ensures) in
+    let both = code-some (a .bold) (a .italic) (a .w) (a .out .now) _ _ (a .text .now) _ (c .before .before .before .before .before .before .before .before .before .before .before .if1 .left) m (c .before .before .before .before .before .before .before .before .put-head .ensures) (c .before .before .before .put-bytes .ensures) in
+    (c .ended2 .ensures ∙ same-state refl (both .0) refl refl refl refl, both .1)
 
 pub put-code-spec : {M : Type 1} → statement M
-put-code-spec =
-    tie.close
-    (tie.spec
-    either-requires
-    either-requires-2
-    add-count
-    span-map-requires
-    put-requires
-    add-at
-    same-length
-    returns
-    span-map-requires-2
-    put-head-requires
-    add-start
-    put-bytes-requires
-    add-at-2
-    same-length-2
-    returns-2)
+put-code-spec = tie.close (tie.spec either-requires either-requires-2 add-count span-map-requires put-requires add-ended ended-requires same-length returns span-map-requires-2 put-head-requires add-start put-bytes-requires add-ended-2 ended-requires-2 same-length-2 returns-2)
