@@ -9,7 +9,6 @@ use lib.ListN.{length, drop, length-append, drop-of-length-le}
 use lib.Dec.{leb, ltb, eqb}
 use borrow.Author.Tests.{leb-true, leb-false, ltb-true, ltb-false}
 use Rattle.text.specs.Utf8.{encode, size}
-use Rattle.text.proofs.Tests.{on}
 use Rattle.records.specs.Blocks.{Span, Kind, heading, paragraph, item, Block}
 use Rattle.records.specs.Format.{encode-span, encode-spans, bit}
 use Rattle.records.specs.Decode.{Parse, failed, parsed, span-at, spans-at, kind-at, count-at, head-at, block-at}
