@@ -4,7 +4,7 @@ use mathlib.Core.Path.{_≡_, refl, sym, ap, ap₂, _∙_}
 use Prim.Native.Nat.{ℕ, _+_, _*_, _^_, _≤_, _<_}
 use native.Mathlib.Nat.{add-zero}
 use native.Mathlib.Omega.{arith}
-use mathlib.Core.Bool.{Bool, true, false, _&&_, _||_}
+use mathlib.Core.Bool.{Bool, true, false, _&&_, _||_, or-false}
 use mathlib.Core.List.{List, [], _∷_, _++_, map}
 use lib.ListN.{length, length-append, length-map}
 use lib.Seq.{sets}
@@ -37,10 +37,6 @@ some-same (c ∷ t) = go (encode (c ∷ t)) refl
     go : (l : List ℕ) → encode (c ∷ t) ≡ l → non-empty l ≡ true
     go [] e = absurd (omega (arith, ap length e, length-append (utf8 c) (encode t), utf8-size c .0))
     go (x ∷ l) e = refl
-
-or-false : (b : Bool) → b || false ≡ b
-or-false true = refl
-or-false false = refl
 
 record-same : (s : Span) → record-of false false (as-bytes s) ≡ encode-span s
 unfolding encode-span
