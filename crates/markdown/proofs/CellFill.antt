@@ -9,12 +9,14 @@ use lib.ListN.{length, getD, take, drop, set, length-append}
 use lib.Seq.{sets, sets-eq, length-sets, take-at, take-take, take-suc, take-append-le, drop-append-le, drop-drop, length-take-le}
 use Rattle.text.specs.Words.{starts, take-while, trim-end-matches}
 use Rattle.text.specs.Utf8.{Scalars, chars}
+use Rattle.text.proofs.RunLaws.{run-le}
+use Rattle.text.proofs.Tests.{starts-room}
+use Rattle.text.proofs.TrimLaws.{end-snoc}
+use Rattle.text.proofs.Lists.{drop-next}
 use Rattle.markdown.specs.Parts.{part}
 use Rattle.markdown.specs.Cells.{cells, dot-bytes, CellsIs, RowIs}
-use Rattle.markdown.proofs.Reading.{drop-next}
 use Rattle.markdown.proofs.PartLaws.{drop-take, part-none, part-length}
-use Rattle.markdown.proofs.RunLaws.{starts-in, run-le}
-use Rattle.markdown.proofs.CellLaws.{cells-spaced, cells-bar, cells-kept, end-snoc, end-nil, bar, row-is}
+use Rattle.markdown.proofs.CellLaws.{cells-spaced, cells-bar, cells-kept, end-nil, bar, row-is}
 
 -- ---- parts after a store
 pub part-next : (l : List ℕ) (a b : ℕ) → a < b → b ≤ length l → part l a b ≡ getD l a 0 ∷ part l (a + 1) b
@@ -103,7 +105,7 @@ module _ (work₀ : List ℕ) (a b at : ℕ) where
       spaced-in e =
           let s = v .size in
           let n = part-length work i b (omega arith) (omega (arith, v .low)) in
-          omega (arith, starts-in (32 ∷ 124 ∷ 32 ∷ []) (part work i b) 0 (omega arith) e)
+          omega (arith, starts-room (32 ∷ 124 ∷ 32 ∷ []) (part work i b) 0 (omega arith) e)
 
       pub filling-spaced : (work₁ : List ℕ) → starts " | " (part work i b) ≡ true → work₁ ≡ sets work k dot-bytes → Filling work₀ work₁ a b at (i + 3) (k + 4)
       filling-spaced work₁ e f =

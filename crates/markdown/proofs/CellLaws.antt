@@ -1,8 +1,8 @@
 -- The laws of `row`: one pass does what the two replacements do, and the same of bytes as of characters.
 -- Assumes nothing.
 use Prim.Native.Nat.{ℕ, zero, suc, _≤_, _<_}
-use mathlib.Core.Bool.{Bool, true, false, cond, and-true as and-true-right}
-use mathlib.Core.List.{List, [], _∷_, _++_, reverse, reverse-cons, reverse-append, reverse-reverse}
+use mathlib.Core.Bool.{Bool, true, false, and-true as and-true-right}
+use mathlib.Core.List.{List, [], _∷_, _++_, reverse}
 use mathlib.Core.Logic.{inl, ⊎-elim}
 use mathlib.Core.Path.{_≡_, refl, sym, ap, _∙_}
 use borrow.Author.Tests.{eqb-true, eqb-false, eq-eqb, ne-eqb, ltb-true, ltb-false}
@@ -14,14 +14,15 @@ use Rattle.text.specs.Words.{if_then_else_, starts, starts-with, drop-while, ta
 use Rattle.text.specs.Utf8.{Scalars, utf8, encode, chars}
 use Rattle.text.specs.Trim.{trim}
 use Rattle.text.proofs.Tests.{decide, on, and-true, within-below}
-use Rattle.text.proofs.Laws.{chars-nil, chars-append, chars-encode, encode-chars, encode-append, scalars-append}
+use Rattle.text.proofs.Laws.{chars-nil, chars-append, chars-encode, encode-chars, encode-append, scalars-drop, High, utf8-high, scalars-reverse}
 use Rattle.text.proofs.AsciiLaws.{chars-ascii}
 use Rattle.text.specs.Chars.{Ascii}
 use Rattle.text.proofs.Utf8.{utf8-1}
+use Rattle.text.proofs.TrimLaws.{end-snoc}
+use Rattle.text.proofs.Lists.{same-last, last-of}
 use Rattle.markdown.specs.Blocks.{replace, row}
 use Rattle.markdown.specs.Cells.{cells, dot, dot-bytes}
-use Rattle.markdown.proofs.Basics.{last-of}
-use Rattle.markdown.proofs.CommentLaws.{High, utf8-all-high, starts-high, starts-encode, drop-encode, scalars-drop}
+use Rattle.markdown.proofs.CommentLaws.{starts-high, starts-encode, drop-encode}
 use Rattle.markdown.proofs.RunLaws.{run-chars, same-low}
 
 -- ---- one pass for two replacements
@@ -129,7 +130,7 @@ cells-encode (suc k) (c ∷ cs) l h =
           ∙ ap (λ (x : List ℕ). c ∷ x) (ih .0)
           ∙ sym (ap encode m ∙ ap (λ (x : List ℕ). x ++ encode (cells dot 0 cs)) u))
           (λ v.
-          cells-high dot-bytes (utf8 c) (encode cs) (utf8-all-high c (h .0) (ltb-false c 0x80 v))
+          cells-high dot-bytes (utf8 c) (encode cs) (utf8-high c (h .0) (ltb-false c 0x80 v))
           ∙ ap (λ (x : List ℕ). utf8 c ++ x) (ih .0)
           ∙ ap encode (sym m))
           (decide (ltb c 0x80)),
@@ -145,20 +146,9 @@ chars-cells s h =
 
 -- ---- a run at the end
 module _ (p : ℕ → Bool) where
-  pub end-snoc : (cs : List ℕ) (c : ℕ) → trim-end-matches p (cs ++ (c ∷ [])) ≡ cond (p c) (trim-end-matches p cs) (cs ++ (c ∷ []))
-  unfolding trim-end-matches drop-while
-  end-snoc cs c =
-      rw (reverse-append cs (c ∷ []))
-      (on (λ (l : List ℕ). reverse l ≡ cond (p c) (reverse (drop-while p (reverse cs))) (cs ++ (c ∷ []))) (p c)
-      (λ e. rw e) (λ e. rw e (reverse-cons c (reverse cs) ∙ rw (reverse-reverse cs))))
-
   pub end-nil : trim-end-matches p [] ≡ []
   unfolding trim-end-matches drop-while
   end-nil = refl
-
-same-last : (xs ys : List ℕ) (b d : ℕ) → xs ++ (b ∷ []) ≡ ys ++ (d ∷ []) → b ≡ d
-same-last xs ys b d e =
-    ap (λ (l : List ℕ). getD l 0 0) (sym (reverse-append xs (b ∷ [])) ∙ ap reverse e ∙ reverse-append ys (d ∷ []))
 
 -- an ASCII byte at the end of the bytes stands at the end of the characters, and nowhere else does its character
 module _ (x : ℕ) (low : x < 0x80) where
@@ -203,10 +193,6 @@ scalars-while : (p : ℕ → Bool) (cs : List ℕ) → Scalars cs → Scalars (d
 unfolding drop-while
 scalars-while p [] h = tt
 scalars-while p (c ∷ cs) h = on Scalars (p c) (λ _. scalars-while p cs (h .1)) (λ _. h)
-
-scalars-reverse : (cs : List ℕ) → Scalars cs → Scalars (reverse cs)
-scalars-reverse [] h = tt
-scalars-reverse (c ∷ cs) h = rw (reverse-cons c cs) (scalars-append (reverse cs) (c ∷ []) (scalars-reverse cs (h .1)) (h .0, tt))
 
 pub scalars-end : (p : ℕ → Bool) (cs : List ℕ) → Scalars cs → Scalars (trim-end-matches p cs)
 unfolding trim-end-matches

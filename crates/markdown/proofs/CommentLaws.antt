@@ -1,7 +1,7 @@
 -- The laws of `cleaned`: a comment removed, and the same of bytes as of characters.
 -- Assumes nothing.
 use Prim.Native.Nat.{ℕ, zero, suc, _+_, _≤_, _<_}
-use mathlib.Core.Bool.{Bool, true, false, cond, true≢false}
+use mathlib.Core.Bool.{Bool, true, false, cond}
 use mathlib.Core.Option.{none, some}
 use mathlib.Core.List.{List, [], _∷_, _++_}
 use mathlib.Core.Logic.{_⊎_, inl, inr, ⊎-elim}
@@ -12,9 +12,9 @@ use lib.Dec.{ltb, eqb}
 use lib.ListN.{length, drop, length-drop, drop-of-length-le}
 use lib.Seq.{drop-drop, drop-append-seam}
 use Rattle.text.specs.Words.{if_then_else_, _>>=_, case, str, starts-with, starts, index}
-use Rattle.text.specs.Utf8.{IsScalar, Scalars, utf8, encode, chars, is-utf8}
-use Rattle.text.proofs.Tests.{decide, on, and-true}
-use Rattle.text.proofs.Laws.{Tails, Long, utf8-long, chars-encode, encode-chars, encode-append, scalars-true}
+use Rattle.text.specs.Utf8.{Scalars, utf8, encode, chars, is-utf8}
+use Rattle.text.proofs.Tests.{decide, on, and-true, starts-split}
+use Rattle.text.proofs.Laws.{chars-encode, encode-chars, encode-append, scalars-true, scalars-drop, High, utf8-high}
 use Rattle.text.proofs.AsciiLaws.{encode-ascii, starts-chars}
 use Rattle.text.specs.Chars.{Ascii}
 use Rattle.text.proofs.Utf8.{utf8-1}
@@ -86,21 +86,6 @@ past-le c s =
     omega arith
 
 -- ---- bytes and characters
-abbrev pub High : List ℕ → Type 0
-High [] = Unit
-High (b ∷ bs) = (0x80 ≤ b) × High bs
-
-tails-high : (bs : List ℕ) → Tails bs → High bs
-tails-high [] h = tt
-tails-high (b ∷ bs) h = (h .0 .0, tails-high bs (h .1))
-
-long-high : (bs : List ℕ) → Long bs → High bs
-long-high [] h = absurd h
-long-high (b ∷ bs) h = (omega arith, tails-high bs (h .1))
-
-pub utf8-all-high : (c : ℕ) → IsScalar c → 0x80 ≤ c → High (utf8 c)
-utf8-all-high c s h = long-high (utf8 c) (utf8-long c s h)
-
 -- a character that is not ASCII starts no literal
 pub starts-high : (d c : ℕ) (p s : List ℕ) → d < 0x80 → 0x80 ≤ c → starts-with (d ∷ p) (c ∷ s) ≡ false
 starts-high d c p s l h = rw (ne-eqb c d (omega arith))
@@ -132,7 +117,7 @@ module _ (d : ℕ) (p : List ℕ) (a : Ascii (d ∷ p)) where
       (λ e. rw e (from-encode cs (h .1)))))
       (λ l.
       let m = ltb-false c 0x80 l in
-      from-high d p (utf8 c) (encode cs) (a .0) (utf8-all-high c (h .0) m)
+      from-high d p (utf8 c) (encode cs) (a .0) (utf8-high c (h .0) m)
       ∙ from-encode cs (h .1)
       ∙ rw (starts-high d c p cs (a .0) m))
       (decide (ltb c 0x80))
@@ -141,14 +126,6 @@ from-starts : (p s : List ℕ) → (from p s ≡ []) ⊎ (starts-with p (from p 
 from-starts p [] = inl refl
 from-starts p (c ∷ s) =
     on (λ (l : List ℕ). (l ≡ []) ⊎ (starts-with p l ≡ true)) (starts-with p (c ∷ s)) (λ e. inr e) (λ _. from-starts p s)
-
-pub starts-split : (p s : List ℕ) → starts-with p s ≡ true → s ≡ p ++ drop (length p) s
-starts-split [] s e = refl
-starts-split (d ∷ p) [] e = absurd (true≢false (sym e))
-starts-split (d ∷ p) (c ∷ s) e =
-    let q = and-true (eqb c d) (starts-with p s) e in
-    let r = eqb-true c d (q .0) in
-    rw r (ap (λ (l : List ℕ). d ∷ l) (starts-split p s (q .1)))
 
 -- a literal at the front of a text, in its bytes
 pub drop-encode : (p s : List ℕ) → Ascii p → starts-with p s ≡ true → drop (length p) (encode s) ≡ encode (drop (length p) s)
@@ -167,15 +144,6 @@ past-encode : (cs : List ℕ) → Scalars cs → past (encode cs) ≡ encode (pa
 past-encode cs h =
     ap (drop 3) (from-encode 45 (45 ∷ 62 ∷ []) ascii-closing cs h)
     ∙ ⊎-elim (λ e. rw e) (λ e. drop-encode closing (from closing cs) ascii-closing e) (from-starts closing cs)
-
-pub scalars-split : (xs ys : List ℕ) → Scalars (xs ++ ys) → Scalars xs × Scalars ys
-scalars-split [] ys h = (tt, h)
-scalars-split (x ∷ xs) ys h = let p = scalars-split xs ys (h .1) in ((h .0, p .0), p .1)
-
-pub scalars-drop : (n : ℕ) (cs : List ℕ) → Scalars cs → Scalars (drop n cs)
-scalars-drop zero cs h = h
-scalars-drop (suc n) [] h = tt
-scalars-drop (suc n) (c ∷ cs) h = scalars-drop n cs (h .1)
 
 scalars-from : (p cs : List ℕ) → Scalars cs → Scalars (from p cs)
 scalars-from p [] h = tt
@@ -214,7 +182,7 @@ cleaned-encode (suc k) (c ∷ cs) l h =
           ∙ ap (λ (x : List ℕ). c ∷ x) (ih .0)
           ∙ sym (ap encode m ∙ ap (λ (x : List ℕ). x ++ encode (cleaned 0 cs)) u))
           (λ v.
-          cleaned-high (utf8 c) (encode cs) (utf8-all-high c (h .0) (ltb-false c 0x80 v))
+          cleaned-high (utf8 c) (encode cs) (utf8-high c (h .0) (ltb-false c 0x80 v))
           ∙ ap (λ (x : List ℕ). utf8 c ++ x) (ih .0)
           ∙ ap encode (sym m))
           (decide (ltb c 0x80)),

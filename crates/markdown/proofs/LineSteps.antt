@@ -26,9 +26,8 @@ use Rattle.markdown.specs.Shape.{Trimmed, wrapped}
 use Rattle.markdown.specs.State.{plain-after, span-start, continued-after, continued-out, ItemAt, LastIs, Holds, Safe, grown, Given, Steps, ends}
 use Rattle.markdown.specs.declared.shape.Range.{Range}
 use Rattle.markdown.specs.declared.writer.State.{State}
-use Rattle.markdown.proofs.Basics.{not-empty}
 use Rattle.markdown.proofs.PartLaws.{part-length}
-use Rattle.markdown.proofs.RunLaws.{empty-chars}
+use Rattle.markdown.proofs.RunLaws.{empty-chars, not-empty}
 use Rattle.markdown.proofs.StoreLaws.{start-low}
 use Rattle.markdown.proofs.StateLaws.{moved-safe, safe-inside, text-length, text-none, given-small, block-small, plain-step, steps-then, holds-continued, spans-length}
 use Rattle.markdown.proofs.ParagraphLaws.{stored-text}

@@ -1,33 +1,23 @@
 -- The laws of parts of a list, and of a part without the spaces at its ends.
 -- Assumes nothing.
-use Prim.Native.Nat.{ℕ, zero, suc, _+_, _-_, _≤_, _<_}
+use Prim.Native.Nat.{ℕ, zero, suc, _+_, _-_, _≤_}
 use mathlib.Core.List.{List, [], _∷_}
-use mathlib.Core.Logic.{⊎-elim}
-use mathlib.Core.Path.{_≡_, refl, sym, ap, _∙_}
-use borrow.Author.Tests.{eqb-true, eqb-false, lt-ltb}
+use mathlib.Core.Path.{_≡_, sym, ap, _∙_}
 use native.Mathlib.Omega.{arith}
-use lib.Dec.{eqb}
+use native.Mathlib.Nat.{sub-zero, suc-sub-suc}
 use lib.ListN.{length, take, drop, length-drop}
 use lib.Seq.{take-take, drop-drop, take-nil, length-take-le, take-length, take-all}
 use Rattle.text.specs.Utf8.{encode, chars}
-use Rattle.text.specs.Trim.{trim-start, trim-end, start-of, end-of, space-before}
-use Rattle.text.proofs.Tests.{decide}
-use Rattle.text.proofs.Laws.{encode-chars}
-use Rattle.text.proofs.TrimLaws.{drop-start, chars-start, start-le, end-le, take-end, end-space, end-other}
+use Rattle.text.specs.Trim.{trim-start, trim-end, start-of, end-of}
+use Rattle.text.proofs.TrimLaws.{drop-start, chars-start, start-le, end-le, take-end, chars-end}
 use Rattle.markdown.specs.Parts.{part, Inside}
 use Rattle.markdown.specs.Shape.{Trimmed}
-
-sub-zero : (n : ℕ) → n - 0 ≡ n
-sub-zero n = omega arith
-
-sub-suc : (n k : ℕ) → suc n - suc k ≡ n - k
-sub-suc n k = omega arith
 
 pub drop-take : (k n : ℕ) (l : List ℕ) → drop k (take n l) ≡ take (n - k) (drop k l)
 drop-take zero n l = rw (sub-zero n)
 drop-take (suc k) zero l = let z : 0 - suc k ≡ 0 = omega arith in rw z
 drop-take (suc k) (suc n) [] = sym (take-nil (suc n - suc k))
-drop-take (suc k) (suc n) (x ∷ l) = drop-take k n l ∙ rw (sub-suc n k)
+drop-take (suc k) (suc n) (x ∷ l) = drop-take k n l ∙ rw (suc-sub-suc n k)
 
 -- a part of a part
 pub part-part : (s : List ℕ) (f t a b : ℕ) → b ≤ t - f → part (part s f t) a b ≡ part s (f + a) (f + b)
@@ -46,29 +36,6 @@ part-none s f = let q : f - f ≡ 0 = omega arith in rw q
 
 pub part-from : (s : List ℕ) (f : ℕ) → part s f (length s) ≡ drop f s
 part-from s f = take-all (length s - f) (drop f s) (rw (length-drop f s) (omega arith))
-
--- ---- what the end of a text loses leaves whole characters
-space-zero : (s : List ℕ) (e : ℕ) → e < 1 → space-before s e ≡ 0
-unfolding space-before
-space-zero s e h = rw (lt-ltb e 1 h)
-
-end-cut : (k : ℕ) (s : List ℕ) (e : ℕ) → e ≤ k → e ≤ length s → (n : ℕ) × (trim-end (chars (take e s)) ≡ chars (take n s))
-end-cut zero s e h l = (e, end-other s e l (space-zero s e (omega arith)))
-end-cut (suc k) s e h l =
-    ⊎-elim
-    (λ z. (e, end-other s e l (eqb-true (space-before s e) 0 z)))
-    (λ z.
-    let n : 1 ≤ space-before s e = omega (arith, eqb-false (space-before s e) 0 z) in
-    let g = end-space s e (space-before s e) refl n in
-    let i = end-cut k s (e - space-before s e) (omega (arith, g .0)) (omega arith) in
-    (i .0, g .1 ∙ i .1))
-    (decide (eqb (space-before s e) 0))
-
-pub chars-end : (s : List ℕ) → chars (encode (trim-end (chars s))) ≡ trim-end (chars s)
-chars-end s =
-    let i = end-cut (length s) s (length s) (omega arith) (omega arith) in
-    let e = rw (take-length s) at (i .1) in
-    rw e (ap chars (encode-chars (take (i .0) s)))
 
 -- ---- the part without the spaces at its ends
 pub start-in : (s : List ℕ) (from to k : ℕ) → Inside s from to → k ≡ start-of (part s from to) → from + k ≤ to

@@ -8,7 +8,7 @@ use native.Mathlib.Omega.{arith}
 use lib.ListN.{length, take, drop, drop-of-length-le}
 use lib.Seq.{sets}
 use Rattle.text.specs.Utf8.{Scalars, chars, is-utf8}
-use Rattle.text.proofs.Laws.{chars-nil, chars-append}
+use Rattle.text.proofs.Laws.{chars-nil, chars-append, scalars-split, scalars-drop}
 use Rattle.text.proofs.FindLaws.{until-since, since-lead}
 use Rattle.text.specs.Find.{until, since}
 use Rattle.records.specs.Blocks.{Block}
@@ -20,7 +20,7 @@ use Rattle.markdown.specs.declared.lines.Line.{Line}
 use Rattle.markdown.specs.declared.writer.State.{State}
 use Rattle.markdown.proofs.LineLaws.{after, chars-after, final, final-line, final-end}
 use Rattle.markdown.proofs.StateLaws.{moved-safe}
-use Rattle.markdown.proofs.CommentLaws.{chars-cleaned, scalars-split, scalars-drop}
+use Rattle.markdown.proofs.CommentLaws.{chars-cleaned}
 
 pub record Reading (md work₀ work out₀ out : List ℕ) (i : ℕ) (s : State) : Type 0 where
   pub now : Reader

@@ -7,17 +7,16 @@ use mathlib.Core.Path.{_≡_, refl, sym, ap, _∙_}
 use borrow.Author.Tests.{ne-eqb}
 use native.Mathlib.Numerals.{add-one}
 use native.Mathlib.Omega.{arith}
-use lib.ListN.{length, getD, take, drop, set, length-append, length-drop, length-set, drop-of-length-le}
-use lib.Seq.{sets, length-sets, drop-cons, drop-drop, drop-append-add, drop-set-lt, getD-drop, take-at, take-suc, take-suc-set, length-take-le}
+use lib.ListN.{length, getD, take, drop, set, length-drop, length-set, drop-of-length-le}
+use lib.Seq.{sets, length-sets, drop-drop, drop-append-add, drop-set-lt, getD-drop, take-at, take-suc, take-suc-set, length-take-le}
 use Rattle.text.specs.Words.{starts}
+use Rattle.text.proofs.Lists.{drop-next}
+use Rattle.text.proofs.Tests.{starts-room}
 use Rattle.records.proofs.Stores.{sets-front}
 use Rattle.markdown.specs.Blocks.{cleaned}
 use Rattle.markdown.specs.Parts.{part, from, past, first-line, other-lines, text-of, PastIs, CommentedIs, LineIs}
 use Rattle.markdown.specs.declared.lines.Line.{Line}
-use Rattle.markdown.proofs.CommentLaws.{closing, comment-goes, other-stays, starts-split}
-
-pub drop-next : (s : List ℕ) (j : ℕ) → j < length s → drop j s ≡ getD s j 0 ∷ drop (j + 1) s
-drop-next s j l = rw (add-one j) (drop-cons s j 0 l)
+use Rattle.markdown.proofs.CommentLaws.{closing, comment-goes, other-stays}
 
 -- ---- the end of a comment
 from-here : (t : List ℕ) → starts "-->" t ≡ true → from closing t ≡ t
@@ -30,7 +29,7 @@ from-next c t e = rw e
 module _ (s : List ℕ) (i j : ℕ) (v : from closing (drop j s) ≡ from closing (drop i s)) (m : i ≤ j) where
   pub past-here : i < length s → starts "-->" (drop j s) ≡ true → PastIs s i (j + 3)
   past-here k e =
-      let n = simp (length-append, length-drop) at (ap length (starts-split closing (drop j s) e)) in
+      let n = starts-room closing s j (omega arith) e in
       record {
         left = sym (drop-drop 3 j s) ∙ ap (drop 3) (sym (from-here (drop j s) e) ∙ v);
         low = omega arith;

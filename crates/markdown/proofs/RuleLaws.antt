@@ -13,8 +13,8 @@ use Rattle.text.specs.Utf8.{size, chars}
 use Rattle.text.proofs.Tests.{decide, and-true}
 use Rattle.text.proofs.Laws.{chars-nil, size-chars}
 use Rattle.text.proofs.AsciiLaws.{chars-ascii}
+use Rattle.text.proofs.Lists.{drop-next}
 use Rattle.markdown.specs.Blocks.{is-rule}
-use Rattle.markdown.proofs.Reading.{drop-next}
 use Rattle.markdown.proofs.RunLaws.{ruled-low, all-chars}
 
 abbrev pub ruled : ℕ → Bool

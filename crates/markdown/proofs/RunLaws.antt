@@ -1,65 +1,22 @@
--- The laws of the run of bytes that a text starts with: one turn of a loop, and the same of characters.
+-- What no character above ASCII passes is the same of bytes as of characters: runs, tests, literals.
 -- Assumes nothing.
-use Prim.Native.Nat.{ℕ, suc, _+_, _≤_, _<_}
+use Prim.Native.Nat.{ℕ, _≤_, _<_}
 use mathlib.Core.Bool.{Bool, true, false, cond}
-use mathlib.Core.List.{List, [], _∷_, _++_}
+use mathlib.Core.List.{List, [], _∷_}
 use mathlib.Core.Logic.{⊎-elim}
-use mathlib.Core.Path.{_≡_, refl, sym, ap, _∙_}
-use borrow.Author.Tests.{ltb-true, ltb-false, ne-eqb, lt-leb, le-leb}
+use mathlib.Core.Path.{_≡_, refl, sym, ap}
+use borrow.Author.Tests.{ltb-true, ltb-false, ne-eqb}
 use native.Mathlib.Omega.{arith}
 use lib.Dec.{eqb, ltb}
-use lib.ListN.{length, getD, take, drop, length-drop, drop-of-length-le}
+use lib.ListN.{length, getD, drop, drop-of-length-le}
 use Rattle.text.specs.Words.{is-empty, all, matches, starts-with, take-while, drop-while}
-use Rattle.text.specs.Chars.{is-digit, Ascii}
 use Rattle.text.specs.Utf8.{chars}
-use Rattle.text.proofs.Tests.{decide, on}
+use Rattle.text.proofs.Tests.{decide}
 use Rattle.text.proofs.Laws.{chars-nil}
 use Rattle.text.proofs.AsciiLaws.{chars-ascii, chars-high}
-use Rattle.markdown.proofs.CommentLaws.{starts-split}
-use Rattle.markdown.proofs.Reading.{drop-next}
-use lib.Seq.{drop-append-seam}
-use lib.ListN.{length-append}
+use Rattle.text.proofs.Lists.{drop-next}
 
--- ---- one turn
 module _ (p : ℕ → Bool) where
-  pub run-next : (s : List ℕ) (i : ℕ) → i < length s → p (getD s i 0) ≡ true
-      → length (take-while p (drop i s)) ≡ suc (length (take-while p (drop (i + 1) s)))
-  unfolding take-while
-  run-next s i l e = rw (drop-next s i l, e)
-
-  pub run-stop : (s : List ℕ) (i : ℕ) → i < length s → p (getD s i 0) ≡ false → take-while p (drop i s) ≡ []
-  unfolding take-while
-  run-stop s i l e = rw (drop-next s i l, e)
-
-  pub run-end : (s : List ℕ) (i : ℕ) → length s ≤ i → take-while p (drop i s) ≡ []
-  unfolding take-while
-  run-end s i l = rw (drop-of-length-le s l)
-
-  -- the run is the front of the text, and passes
-  pub run-take : (s : List ℕ) → take (length (take-while p s)) s ≡ take-while p s
-  unfolding take-while
-  run-take [] = refl
-  run-take (c ∷ s) = on (λ (l : List ℕ). take (length l) (c ∷ s) ≡ l) (p c) (λ _. ap (λ (l : List ℕ). c ∷ l) (run-take s)) (λ _. refl)
-
-  pub run-all : (s : List ℕ) → all p (take-while p s) ≡ true
-  unfolding take-while
-  run-all [] = refl
-  run-all (c ∷ s) = on (λ (l : List ℕ). all p l ≡ true) (p c) (λ e. rw e (run-all s)) (λ _. refl)
-
-  pub run-le : (s : List ℕ) → length (take-while p s) ≤ length s
-  unfolding take-while
-  run-le [] = omega arith
-  run-le (c ∷ s) = let ih = run-le s in on (λ (l : List ℕ). length l ≤ suc (length s)) (p c) (λ _. omega arith) (λ _. omega arith)
-
-  pub run-split : (s : List ℕ) → take-while p s ++ drop-while p s ≡ s
-  unfolding take-while drop-while
-  run-split [] = refl
-  run-split (c ∷ s) = go (p c) (run-split s)
-    where
-      go : (t : Bool) → take-while p s ++ drop-while p s ≡ s → cond t (c ∷ take-while p s) [] ++ cond t (drop-while p s) (c ∷ s) ≡ c ∷ s
-      go true ih = ap (λ (l : List ℕ). c ∷ l) ih
-      go false ih = refl
-
   -- ---- what no character above ASCII passes
   module _ (low : (c : ℕ) → 0x80 ≤ c → p c ≡ false) where
     pub run-chars : (s : List ℕ) → (take-while p (chars s) ≡ take-while p s) × (drop-while p (chars s) ≡ chars (drop (length (take-while p s)) s))
@@ -89,15 +46,16 @@ module _ (p : ℕ → Bool) where
         (decide (ltb x 0x80))
 
 -- ---- tests
-pub digit-low : (c : ℕ) → 0x80 ≤ c → is-digit c ≡ false
-digit-low c h = rw (le-leb 48 c (omega arith), lt-leb c 57 (omega arith))
-
 pub same-low : (b : ℕ) → b < 0x80 → (c : ℕ) → 0x80 ≤ c → eqb c b ≡ false
 same-low b l c h = ne-eqb c b (omega arith)
 
 pub ruled-low : (c : ℕ) → 0x80 ≤ c → matches "-*_ |:" c ≡ false
 ruled-low c h =
     simp (ne-eqb c 45 (omega arith), ne-eqb c 42 (omega arith), ne-eqb c 95 (omega arith), ne-eqb c 32 (omega arith), ne-eqb c 124 (omega arith), ne-eqb c 58 (omega arith))
+
+pub not-empty : (l : List ℕ) → 1 ≤ length l → is-empty l ≡ false
+not-empty [] h = absurd (omega arith)
+not-empty (x ∷ l) h = refl
 
 pub empty-chars : (s : List ℕ) → is-empty (chars s) ≡ is-empty s
 empty-chars [] = rw chars-nil
@@ -106,23 +64,6 @@ empty-chars (x ∷ xs) =
     (λ l. rw (chars-ascii x xs (ltb-true x 0x80 l)))
     (λ l. let h = chars-high x xs (ltb-false x 0x80 l) in rw (h .2))
     (decide (ltb x 0x80))
-
--- a literal at the front of a text, in its characters
-chars-front : (ps s : List ℕ) → Ascii ps → chars (ps ++ s) ≡ ps ++ chars s
-chars-front [] s a = refl
-chars-front (p ∷ ps) s a = chars-ascii p (ps ++ s) (a .0) ∙ ap (λ (l : List ℕ). p ∷ l) (chars-front ps s (a .1))
-
-pub chars-past : (ps s : List ℕ) → Ascii ps → starts-with ps s ≡ true → drop (length ps) (chars s) ≡ chars (drop (length ps) s)
-chars-past ps s a e =
-    ap (λ (l : List ℕ). drop (length ps) (chars l)) (starts-split ps s e)
-    ∙ ap (drop (length ps)) (chars-front ps (drop (length ps) s) a)
-    ∙ drop-append-seam ps (chars (drop (length ps) s))
-
--- how far a literal that stands at i reaches
-pub starts-in : (ps s : List ℕ) (i : ℕ) → 1 ≤ length ps → starts-with ps (drop i s) ≡ true → i + length ps ≤ length s
-starts-in ps s i h e =
-    let n = simp (length-append, length-drop) at (ap length (starts-split ps (drop i s) e)) in
-    omega arith
 
 -- a literal does not stand past the end, nor where another byte than its first stands
 pub starts-past : (d : ℕ) (ps s : List ℕ) (i : ℕ) → length s ≤ i → false ≡ starts-with (d ∷ ps) (drop i s)

@@ -14,19 +14,20 @@ use Rattle.text.specs.Words.{if_then_else_, case, str, starts, starts-with, is-
 use Rattle.text.specs.Chars.{within, is-digit, is-space, Ascii}
 use Rattle.text.specs.Utf8.{encode, size, chars}
 use Rattle.text.specs.Trim.{trim, start-of}
-use Rattle.text.proofs.Tests.{or-elim, and-false, within-is, within-below, within-above}
+use Rattle.text.proofs.Tests.{or-elim, and-false, within-is, within-below, within-above, starts-room}
 use Rattle.text.proofs.Laws.{chars-nil, encode-chars, encode-append, size-encode}
-use Rattle.text.proofs.AsciiLaws.{starts-chars}
+use Rattle.text.proofs.AsciiLaws.{starts-chars, digit-high, drop-chars}
 use Rattle.text.proofs.TrimLaws.{drop-start, chars-start, start-le}
+use Rattle.text.proofs.RunLaws.{run-take, run-all, run-le, run-split}
+use Rattle.text.proofs.Lists.{drop-next}
 use Rattle.records.specs.Blocks.{Heading, Paragraph, Item}
 use Rattle.spans.specs.Spans.{spans}
 use Rattle.markdown.specs.Blocks.{is-rule, marked, marker-at, list-marker, row, Reader, reader, flush, added, heading, paragraph, continuation, read-text, read-line}
 use Rattle.markdown.specs.Parts.{part, Inside}
 use Rattle.markdown.specs.Shape.{Trimmed, Titled, mark, MarkerAt, Reads, ReadsText, ReadsItem, wrapped, Bare}
 use Rattle.markdown.specs.declared.shape.Range.{Range}
-use Rattle.markdown.proofs.Reading.{drop-next}
 use Rattle.markdown.proofs.PartLaws.{part-from, part-none, part-length, part-part}
-use Rattle.markdown.proofs.RunLaws.{run-chars, run-take, run-all, run-le, run-split, same-low, digit-low, empty-chars, chars-past, starts-in}
+use Rattle.markdown.proofs.RunLaws.{run-chars, same-low, empty-chars}
 
 ascii-one : (x : ℕ) → x < 0x80 → Ascii (x ∷ [])
 ascii-one x h = (h, tt)
@@ -55,7 +56,7 @@ module _ (t : List ℕ) (level : ℕ) (e : level ≡ length (take-while (λ (x :
 
   module _ (h : starts-with (32 ∷ []) (drop level t) ≡ true) where
     pub title-inside : Inside t level (length t)
-    title-inside = record { order = omega (arith, starts-in (32 ∷ []) t level (omega arith) h); bound = omega arith }
+    title-inside = record { order = omega (arith, starts-room (32 ∷ []) t level (omega arith) h); bound = omega arith }
 
     pub title-is : (l : ℕ) (g : Range) → level ≤ 6 → Trimmed t level (length t) g → l ≡ min level 3 → Titled t l (g .from) (g .to)
     title-is l g m v q =
@@ -88,17 +89,17 @@ module _ (line : List ℕ) (at : ℕ) (e : at ≡ start-of line) where
     bullet-size : at + 2 ≤ length line
     bullet-size =
         or-elim (starts "- " s || starts "* " s) (starts "+ " s)
-        (λ f. or-elim (starts "- " s) (starts "* " s) (λ g. starts-in (45 ∷ 32 ∷ []) line at (omega arith) g) (λ g. starts-in (42 ∷ 32 ∷ []) line at (omega arith) g) f)
-        (λ g. starts-in (43 ∷ 32 ∷ []) line at (omega arith) g)
+        (λ f. or-elim (starts "- " s) (starts "* " s) (λ g. starts-room (45 ∷ 32 ∷ []) line at (omega arith) g) (λ g. starts-room (42 ∷ 32 ∷ []) line at (omega arith) g) f)
+        (λ g. starts-room (43 ∷ 32 ∷ []) line at (omega arith) g)
         b
 
     bullet-past : drop 2 (chars s) ≡ chars (drop 2 s)
     bullet-past =
         or-elim (starts "- " s || starts "* " s) (starts "+ " s)
         (λ f. or-elim (starts "- " s) (starts "* " s)
-        (λ g. chars-past (45 ∷ 32 ∷ []) s (ascii-two 45 32 (omega arith) (omega arith)) g)
-        (λ g. chars-past (42 ∷ 32 ∷ []) s (ascii-two 42 32 (omega arith) (omega arith)) g) f)
-        (λ g. chars-past (43 ∷ 32 ∷ []) s (ascii-two 43 32 (omega arith) (omega arith)) g)
+        (λ g. sym (drop-chars (45 ∷ 32 ∷ []) s (ascii-two 45 32 (omega arith) (omega arith)) g))
+        (λ g. sym (drop-chars (42 ∷ 32 ∷ []) s (ascii-two 42 32 (omega arith) (omega arith)) g)) f)
+        (λ g. sym (drop-chars (43 ∷ 32 ∷ []) s (ascii-two 43 32 (omega arith) (omega arith)) g))
         b
 
     bullet-eq : marker-at at (chars s) ≡ some (marked (at / 2) (str "•") (drop 2 (chars s)))
@@ -141,7 +142,7 @@ module _ (line : List ℕ) (at : ℕ) (e : at ≡ start-of line) where
           ≡ (if starts ". " (drop (at + n) line) && within 1 9 n then some (marked (at / 2) (take-while is-digit rest ++ str ".") (drop 2 (chars (drop (at + n) line)))) else none)
       unfolding marker-at
       ordinal-eq =
-          let rc = run-chars is-digit digit-low rest in
+          let rc = run-chars is-digit digit-high rest in
           rw (
             starts-chars (45 ∷ 32 ∷ []) rest (ascii-two 45 32 (omega arith) (omega arith)),
             starts-chars (42 ∷ 32 ∷ []) rest (ascii-two 42 32 (omega arith) (omega arith)),
@@ -165,7 +166,7 @@ module _ (line : List ℕ) (at : ℕ) (e : at ≡ start-of line) where
 
       module _ (f : starts ". " (drop (at + n) line) ≡ true) where
         pub ordinal-inside : Inside line (at + n + 2) (length line)
-        ordinal-inside = record { order = starts-in (46 ∷ 32 ∷ []) line (at + n) (omega arith) f; bound = omega arith }
+        ordinal-inside = record { order = starts-room (46 ∷ 32 ∷ []) line (at + n) (omega arith) f; bound = omega arith }
 
         mark-some : (ds : List ℕ) → 1 ≤ length ds → mark ds ≡ ds ++ str "."
         mark-some [] h = absurd (omega arith)
@@ -189,7 +190,7 @@ module _ (line : List ℕ) (at : ℕ) (e : at ≡ start-of line) where
                   ∙ rw (
                     f,
                     within-is 1 9 n (omega arith) m,
-                    chars-past (46 ∷ 32 ∷ []) (drop (at + n) line) (ascii-two 46 32 (omega arith) (omega arith)) f,
+                    sym (drop-chars (46 ∷ 32 ∷ []) (drop (at + n) line) (ascii-two 46 32 (omega arith) (omega arith)) f),
                     v .text,
                     part-from line (at + n + 2),
                     drop-drop 2 (at + n) line,

@@ -23,9 +23,8 @@ use Rattle.markdown.specs.Blocks.{Reader, reader, flush, added, continue
 use Rattle.markdown.specs.Parts.{source, text-of, Inside}
 use Rattle.markdown.specs.State.{counted, plain-after, item-after, continued-after, continued-out, closed, ItemAt, LastIs, Holds, Placed, Safe, Given, Steps, ends}
 use Rattle.markdown.specs.declared.writer.State.{State}
-use Rattle.markdown.proofs.Basics.{not-empty}
 use Rattle.markdown.proofs.PartLaws.{part-none, part-length}
-use Rattle.markdown.proofs.RunLaws.{empty-chars}
+use Rattle.markdown.proofs.RunLaws.{empty-chars, not-empty}
 use Rattle.markdown.proofs.StoreLaws.{block-length, kind-short}
 use Rattle.markdown.proofs.GrowLaws.{blocks-last, grow}
 

@@ -15,7 +15,7 @@ use Rattle.text.specs.Words.{all}
 use Rattle.text.specs.Chars.{is-digit, Ascii}
 use Rattle.text.specs.Utf8.{utf8, size, encode, chars}
 use Rattle.text.proofs.Tests.{decide, on, and-true, within-true}
-use Rattle.text.proofs.AsciiLaws.{encode-ascii}
+use Rattle.text.proofs.AsciiLaws.{encode-ascii, ascii-append}
 use Rattle.text.proofs.Laws.{size-encode}
 use Rattle.markdown.specs.Shape.{mark, item-bits}
 use Rattle.records.specs.Blocks.{Span, item, Block, Item}
@@ -118,10 +118,6 @@ digits-ascii (d ∷ ds) e =
     let p = and-true (is-digit d) (all is-digit ds) e in
     let q = within-true 48 57 d (p .0) in
     (omega arith, digits-ascii ds (p .1))
-
-ascii-append : (xs ys : List ℕ) → Ascii xs → Ascii ys → Ascii (xs ++ ys)
-ascii-append [] ys p q = q
-ascii-append (x ∷ xs) ys p q = (p .0, ascii-append xs ys (p .1) q)
 
 pub mark-none : (ds : List ℕ) → length ds ≡ 0 → size (mark ds) ∷ encode (mark ds) ≡ 3 ∷ 226 ∷ 128 ∷ 162 ∷ []
 unfolding size utf8

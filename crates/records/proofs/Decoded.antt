@@ -12,11 +12,10 @@ use lib.Dec.{leb, ltb, eqb, lit<}
 use native.Mathlib.Nat.{mul-zero, mul-one}
 use borrow.Author.Tests.{leb-true, leb-false, ltb-true, ltb-false, eqb-true, le-leb, lt-leb, eq-eqb}
 use Rattle.text.specs.Utf8.{Scalars, encode, size, chars, is-utf8}
-use Rattle.text.proofs.Laws.{encode-chars}
+use Rattle.text.proofs.Laws.{encode-chars, size-chars, utf8-scalars}
 use Rattle.records.specs.Blocks.{Span, Kind, Block, item}
 use Rattle.records.specs.Format.{le16, le32, non-empty, text-form, span-map, encode-span, encode-spans, encode-kind, encode-count, encode-block, kind-bits, bit, is-marker, WfSpan, WfSpans, WfKind, WfBlock}
 use Rattle.records.specs.Decode.{Bytes, Parse, _▹_, only, u16, u32, part, text-at, span-of, span-at, spans-at, level-at, marker-at, item-at, kind-at, count-at, Head, head-at, block-at, failed, parsed}
-use Rattle.records.proofs.TextMore.{size-encode, utf8-scalars}
 use Rattle.records.proofs.FormatLaws.{text-some}
 
 module _ {A : Type 0} {a : A} {r : List ℕ} where
@@ -88,7 +87,7 @@ part-chars n s {t} {r} h w =
     let x = part-inv n s h w in
     record {
       same = x .same ∙ ap (λ (l : List ℕ). l ++ r) (sym (encode-chars t));
-      good = size-encode (chars t) ∙ ap length (encode-chars t) ∙ x .good;
+      good = size-chars t ∙ x .good;
       left = x .left;
     }
 

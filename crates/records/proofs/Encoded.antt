@@ -9,12 +9,11 @@ use lib.ListN.{length, length-append}
 use lib.Seq.{take-append-seam, drop-append-seam}
 use lib.Dec.{leb, ltb}
 use borrow.Author.Tests.{le-leb}
-use Rattle.text.specs.Utf8.{Scalars, encode, size}
-use Rattle.text.proofs.Laws.{chars-encode}
+use Rattle.text.specs.Utf8.{Scalars, encode, size, is-utf8}
+use Rattle.text.proofs.Laws.{chars-encode, size-encode, scalars-is}
 use Rattle.records.specs.Blocks.{Span, Kind, Block, heading, paragraph, item}
 use Rattle.records.specs.Format.{le16, le32, non-empty, span-map, encode-span, encode-spans, encode-kind, encode-count, encode-block, kind-bits, bit, is-marker, WfSpan, WfSpans, WfKind, WfBlock}
 use Rattle.records.specs.Decode.{u16, u32, part, text-at, span-at, spans-at, level-at, marker-at, item-at, kind-at, count-at, head-at, block-at, parsed}
-use Rattle.records.proofs.TextMore.{size-encode, utf8-encode}
 use Rattle.records.proofs.FormatLaws.{size-some, span-some}
 use Rattle.records.proofs.Markers.{marker-scalars}
 
@@ -32,9 +31,13 @@ part-of t s =
     let h : length t ≤ length (t ++ s) = simp length-append (omega arith) in
     rw (le-leb _ _ h, take-append-seam, drop-append-seam)
 
+utf8-encode : (cs : List ℕ) → Scalars cs → is-utf8 (encode cs) ≡ true
+unfolding is-utf8
+utf8-encode cs h = rw (chars-encode cs h) (scalars-is cs h)
+
 -- a text's bytes
 bytes-of : (cs s : List ℕ) → part (size cs) (encode cs ++ s) ≡ parsed (encode cs) s
-bytes-of cs s = rw (size-encode cs) (part-of (encode cs) s)
+bytes-of cs s = rw (← size-encode cs) (part-of (encode cs) s)
 
 text-at-of : (cs s : List ℕ) → Scalars cs → size cs < 2 ^ 32 → 1 ≤ size cs → text-at (le32 (size cs) ++ (encode cs ++ s)) ≡ parsed cs s
 unfolding text-at

@@ -5,13 +5,31 @@ use native.Mathlib.Omega.{arith}
 use mathlib.Core.Bool.{Bool, true, false}
 use mathlib.Core.List.{List, [], _∷_, _++_}
 use lib.ListN.{length}
-use Rattle.text.specs.Utf8.{encode, size}
+use Rattle.text.specs.Utf8.{encode, size, Scalars, IsScalar, utf8}
+use Rattle.text.proofs.Utf8.{utf8-1, utf8-2, utf8-3, utf8-4, ranges, top}
 use Rattle.records.specs.Blocks.{Span, Kind, heading, paragraph, item, Block}
 use Rattle.records.specs.Format.{le16, le32, bit, non-empty, text-form, encode-span, encode-spans, kind-bits, encode-kind, encode-count, encode-block, encode-blocks, WfSpan, WfSpans, WfKind, WfBlock, WfBlocks}
 use Rattle.records.specs.Decode.{Bytes}
-use Rattle.records.proofs.TextMore.{bytes-append, bytes-encode}
 use Rattle.records.proofs.Markers.{marker-scalars, marker-short}
 
+-- an encoding is bytes
+bytes-append : (xs ys : List ℕ) → Bytes xs → Bytes ys → Bytes (xs ++ ys)
+bytes-append [] ys v w = w
+bytes-append (x ∷ xs) ys v w = (v .0, bytes-append xs ys (v .1) w)
+
+bytes-utf8 : (c : ℕ) → IsScalar c → Bytes (utf8 c)
+bytes-utf8 c s =
+    ranges c
+    (λ h. rw (utf8-1 c h) (omega arith, tt))
+    (λ l h. rw (utf8-2 c l h) (omega arith, (omega arith, tt)))
+    (λ l h. rw (utf8-3 c l h) (omega arith, (omega arith, (omega arith, tt))))
+    (λ l. let k = top c s in rw (utf8-4 c l (omega arith)) (omega arith, (omega arith, (omega arith, (omega arith, tt)))))
+
+bytes-encode : (cs : List ℕ) → Scalars cs → Bytes (encode cs)
+bytes-encode [] h = tt
+bytes-encode (c ∷ cs) h = bytes-append (utf8 c) (encode cs) (bytes-utf8 c (h .0)) (bytes-encode cs (h .1))
+
+-- and so are numbers
 bytes-le16 : (n : ℕ) → Bytes (le16 n)
 bytes-le16 n = (omega arith, (omega arith, tt))
 
@@ -62,7 +80,8 @@ bytes-block b w =
     let l : kind-bits (b .kind) ≤ 6 = k .0 in
     (omega arith, bytes-append (encode-kind (b .kind) ++ encode-count (length (b .spans))) (encode-spans (b .spans)) (bytes-append (encode-kind (b .kind)) (encode-count (length (b .spans))) (k .1) (bytes-count (length (b .spans)))) (bytes-spans (b .spans) (w .spans)))
 
-pub bytes-blocks : (bs : List Block) → WfBlocks bs → Bytes (encode-blocks bs)
+-- every record string consists of bytes
+pub records-are-bytes : (bs : List Block) → WfBlocks bs → Bytes (encode-blocks bs)
 unfolding encode-blocks
-bytes-blocks [] w = tt
-bytes-blocks (b ∷ bs) w = bytes-append (encode-block b) (encode-blocks bs) (bytes-block b (w .0)) (bytes-blocks bs (w .1))
+records-are-bytes [] w = tt
+records-are-bytes (b ∷ bs) w = bytes-append (encode-block b) (encode-blocks bs) (bytes-block b (w .0)) (records-are-bytes bs (w .1))

@@ -12,9 +12,6 @@ use Rattle.records.specs.Readers.{NumberIs}
 use Rattle.records.specs.declared.fields.Number.the-variants.{Value, Bad}
 
 module _ (s : List ℕ) (at : ℕ) where
-  pub front : at < length s → drop at s ≡ getD s at 0 ∷ drop (at + 1) s
-  front h = rw add-one (drop-cons s at 0 h)
-
   pub front2 : at + 2 ≤ length s → drop at s ≡ getD s at 0 ∷ getD s (at + 1) 0 ∷ drop (at + 2) s
   front2 h = rw (add-one, add-two) (drop-cons s at 0 (omega arith) ∙ ap (λ (l : List ℕ). getD s at 0 ∷ l) (drop-cons s (suc at) 0 (omega arith)))
 

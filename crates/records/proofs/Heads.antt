@@ -10,6 +10,7 @@ use lib.Dec.{leb}
 use borrow.Author.Tests.{le-leb, lt-leb, lt-ltb, le-ltb, eq-eqb, ne-eqb}
 use Rattle.records.specs.Blocks.{Kind}
 use Rattle.text.specs.Utf8.{size, chars}
+use Rattle.text.proofs.Lists.{drop-next}
 use Rattle.records.specs.Format.{is-marker}
 use Rattle.records.specs.Decode.{Parse, u16, u32, level-at, marker-at, item-at, kind-at, count-at, head-at, parsed}
 use Rattle.records.specs.Readers.{NumberIs, between, Within, KindIs, kind-of, kind-ended, kind-parse, kind-read-placed, kind-placed, HeadIs}
@@ -20,7 +21,6 @@ use Rattle.records.specs.declared.reader.Kind.the-variants as KV
 use Rattle.records.specs.declared.reader.KindRead.{KindRead}
 use Rattle.records.specs.declared.reader.KindRead.the-variants as KR
 use Rattle.records.specs.declared.reader.Head.the-variants as H
-use Rattle.records.proofs.Front.{front}
 use Rattle.records.proofs.Spans.{number-bad, number-read, number-within, part-short, part-is, between-size}
 use Rattle.records.proofs.Placed.{after-length, kind-ends}
 
@@ -35,29 +35,29 @@ marker-end d s at h = record { read = rw (drop-of-length-le s h); placed = tt }
 module _ (s : List ℕ) (at : ℕ) (h : at < length s) {n : ℕ} (e : n ≡ getD s at 0) where
   pub level-low : n < 1 → KindIs (level-at (drop at s)) s KR.Bad
   unfolding level-at
-  level-low l = record { read = rw (front s at h, ← e, lt-leb 1 n l); placed = tt }
+  level-low l = record { read = rw (drop-next s at h, ← e, lt-leb 1 n l); placed = tt }
 
   pub level-high : 1 ≤ n → 3 < n → KindIs (level-at (drop at s)) s KR.Bad
   unfolding level-at
-  level-high lo l = record { read = rw (front s at h, ← e, le-leb 1 n lo, lt-leb n 3 l); placed = tt }
+  level-high lo l = record { read = rw (drop-next s at h, ← e, le-leb 1 n lo, lt-leb n 3 l); placed = tt }
 
   pub level-is : 1 ≤ n → n ≤ 3 → KindIs (level-at (drop at s)) s (KR.At (KV.Heading n) (at + 1))
   unfolding level-at
-  level-is lo l = record { read = rw (front s at h, ← e, le-leb 1 n lo, le-leb n 3 l); placed = (tt, omega arith) }
+  level-is lo l = record { read = rw (drop-next s at h, ← e, le-leb 1 n lo, le-leb n 3 l); placed = (tt, omega arith) }
 
   module _ (d : ℕ) where
     pub marker-short : length s - (at + 1) < n → KindIs (marker-at d (drop at s)) s KR.Bad
     unfolding marker-at
-    marker-short l = record { read = rw (front s at h, ← e, part-short s (at + 1) n l); placed = tt }
+    marker-short l = record { read = rw (drop-next s at h, ← e, part-short s (at + 1) n l); placed = tt }
 
     module _ (l : n ≤ length s - (at + 1)) {t : Bool} (u : t ≡ is-marker (chars (between s (at + 1) (at + 1 + n)))) where
       pub marker-wrong : t ≡ false → KindIs (marker-at d (drop at s)) s KR.Bad
       unfolding marker-at
-      marker-wrong f = record { read = rw (front s at h, ← e, part-is s (at + 1) n l, ← u, f); placed = tt }
+      marker-wrong f = record { read = rw (drop-next s at h, ← e, part-is s (at + 1) n l, ← u, f); placed = tt }
 
       pub marker-is : t ≡ true → KindIs (marker-at d (drop at s)) s (KR.At (KV.Item d (at + 1) (at + 1 + n)) (at + 1 + n))
       unfolding marker-at
-      marker-is f = record { read = rw (front s at h, ← e, part-is s (at + 1) n l, ← u, f); placed = ((omega arith, refl), omega arith) }
+      marker-is f = record { read = rw (drop-next s at h, ← e, part-is s (at + 1) n l, ← u, f); placed = ((omega arith, refl), omega arith) }
 
 module _ (s : List ℕ) (at : ℕ) {r : Number} (w : NumberIs (u16 (drop at s)) s r) where
   pub item-none : r ≡ Bad → KindIs (item-at (drop at s)) s KR.Bad
@@ -138,18 +138,18 @@ head-end s at h = record { read = rw (drop-of-length-le s h); placed = tt }
 module _ (s : List ℕ) (at : ℕ) (h : at < length s) where
   pub head-high : 16 ≤ getD s at 0 → HeadIs s at H.Bad
   unfolding head-at
-  head-high l = record { read = rw (front s at h, le-ltb (getD s at 0) 16 l); placed = tt }
+  head-high l = record { read = rw (drop-next s at h, le-ltb (getD s at 0) 16 l); placed = tt }
 
   module _ (hi : getD s at 0 < 16) {k : KindRead} (w : KindIs (kind-at (getD s at 0 % 8) (drop (at + 1) s)) s k) where
     pub head-none : k ≡ KR.Bad → HeadIs s at H.Bad
     unfolding head-at
-    head-none e = record { read = rw (front s at h, lt-ltb (getD s at 0) 16 hi, w .read, e); placed = tt }
+    head-none e = record { read = rw (drop-next s at h, lt-ltb (getD s at 0) 16 hi, w .read, e); placed = tt }
 
     module _ {kind : K.Kind} {next : ℕ} (e : k ≡ KR.At kind next) {r : Number} (x : NumberIs (count-at (leb 8 (getD s at 0)) (drop next s)) s r) where
       pub head-uncounted : r ≡ Bad → HeadIs s at H.Bad
       unfolding head-at
-      head-uncounted f = record { read = rw (front s at h, lt-ltb (getD s at 0) 16 hi, w .read, e, number-bad x f); placed = tt }
+      head-uncounted f = record { read = rw (drop-next s at h, lt-ltb (getD s at 0) 16 hi, w .read, e, number-bad x f); placed = tt }
 
       pub head-is : {n first : ℕ} → r ≡ Value n first → HeadIs s at (H.At kind n first)
       unfolding head-at
-      head-is f = record { read = rw (front s at h, lt-ltb (getD s at 0) 16 hi, w .read, e, number-read x f); placed = (kind-stands s at (getD s at 0 % 8) h (kind-within w e) kind (w .read ∙ ap (kind-parse s) e) (subst (kind-read-placed s) e (w .placed) .0), number-within x f) }
+      head-is f = record { read = rw (drop-next s at h, lt-ltb (getD s at 0) 16 hi, w .read, e, number-read x f); placed = (kind-stands s at (getD s at 0 % 8) h (kind-within w e) kind (w .read ∙ ap (kind-parse s) e) (subst (kind-read-placed s) e (w .placed) .0), number-within x f) }

@@ -1,4 +1,3 @@
-pub mod TextMore
 pub mod Front
 pub mod Markers
 pub mod FormatLaws

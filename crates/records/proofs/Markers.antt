@@ -11,13 +11,24 @@ use lib.Dec.{leb, eqb}
 use borrow.Author.Tests.{eqb-true, leb-true, le-leb, lt-leb}
 use Rattle.text.specs.Words.{same, str, starts-with}
 use Rattle.text.specs.Chars.{is-digit, Ascii}
-use Rattle.text.specs.Utf8.{Scalars, utf8, size, chars}
-use Rattle.text.proofs.Tests.{and-true, or-elim, within-true}
-use Rattle.text.proofs.Laws.{encode-chars}
-use Rattle.text.proofs.AsciiLaws.{encode-ascii}
+use Rattle.text.specs.Utf8.{Scalars, utf8, size, chars, encode}
+use Rattle.text.proofs.Tests.{and-true, or-elim, within-true, test-iff, same-true, same-self}
+use Rattle.text.proofs.Laws.{encode-chars, chars-encode}
+use Rattle.text.proofs.AsciiLaws.{encode-ascii, chars-same, size-ascii}
+use Rattle.text.proofs.Lists.{drop-next}
 use Rattle.records.specs.Format.{is-bullet, digits-stop, is-ordinal, is-marker}
-use Rattle.records.proofs.TextMore.{test-iff, same-true, same-encode, scalars-ascii, chars-same, size-encode}
-use Rattle.records.proofs.Front.{front, front2}
+use Rattle.records.proofs.Front.{front2}
+
+-- characters are compared by their bytes
+same-encode : (bs cs : List ℕ) → Scalars cs → same (chars bs) cs ≡ same bs (encode cs)
+same-encode bs cs h =
+    test-iff (same (chars bs) cs) (same bs (encode cs))
+    (λ e. let p : encode cs ≡ bs = ap encode (sym (same-true (chars bs) cs e)) ∙ encode-chars bs in rw p (same-self bs))
+    (λ e. let p : chars bs ≡ cs = ap chars (same-true bs (encode cs) e) ∙ chars-encode cs h in rw p (same-self cs))
+
+scalars-ascii : (cs : List ℕ) → Ascii cs → Scalars cs
+scalars-ascii [] h = tt
+scalars-ascii (c ∷ cs) h = let l : c < 0x80 = h .0 in (inl (omega arith), scalars-ascii cs (h .1))
 
 bullet-scalar : Scalars (str "•")
 bullet-scalar = (inl (omega arith), tt)
@@ -67,7 +78,7 @@ ordinal-short : (m : List ℕ) → is-ordinal m ≡ true → size m ≤ 10
 ordinal-short m e =
     let p = and-true (leb 2 (length m)) (leb (length m) 10) (and-true (leb 2 (length m) && leb (length m) 10) (digits-stop m) e .0) in
     let h = leb-true (length m) 10 (p .1) in
-    rw (size-encode m, encode-ascii m (ordinal-ascii m e)) h
+    rw (size-ascii m (ordinal-ascii m e)) h
 
 -- a marker's length fits a byte
 pub marker-short : (m : List ℕ) → is-marker m ≡ true → size m ≤ 10
@@ -99,13 +110,13 @@ module _ (m : List ℕ) (b : is-bullet (chars m) ≡ false) where
 
 module _ (m : List ℕ) (i : ℕ) (h : i + 2 ≤ length m) where
   pub stop-step : is-digit (getD m i 0) ≡ true → digits-stop (drop (i + 1) m) ≡ digits-stop (drop i m)
-  stop-step d = rw (front m i (omega arith), front m (i + 1) (omega arith), d)
+  stop-step d = rw (drop-next m i (omega arith), drop-next m (i + 1) (omega arith), d)
 
   pub stop-bad : is-digit (getD m i 0) ≡ false → digits-stop (drop i m) ≡ false
   stop-bad d = rw (front2 m i h, d)
 
 pub stop-last : (m : List ℕ) → 1 ≤ length m → digits-stop (drop (length m - 1) m) ≡ eqb (getD m (length m - 1) 0) 46
-stop-last m h = rw (front m (length m - 1) (omega arith), drop-of-length-le m {i = length m - 1 + 1} (omega arith))
+stop-last m h = rw (drop-next m (length m - 1) (omega arith), drop-of-length-le m {i = length m - 1 + 1} (omega arith))
 
 pub stop-none : (m : List ℕ) → length m ≡ 0 → digits-stop m ≡ false
 stop-none [] e = refl

@@ -12,13 +12,12 @@ use lib.Seq.{drop-drop, length-take-le}
 use lib.Dec.{leb, ltb, eqb}
 use borrow.Author.Tests.{leb-true}
 use Rattle.text.specs.Utf8.{encode, size, chars, is-utf8}
-use Rattle.text.proofs.Laws.{encode-chars}
+use Rattle.text.proofs.Laws.{encode-chars, size-chars, size-encode}
 use Rattle.records.specs.Blocks.{Span, Kind, heading, paragraph, item}
 use Rattle.records.specs.Format.{text-form, encode-span, encode-spans, is-marker, bit}
 use Rattle.records.specs.Decode.{_▹_, u16, u32, part, text-at, span-of, span-at, spans-at, level-at, marker-at, item-at, kind-at, count-at, parsed}
 use Rattle.records.specs.Answers.{marker-of}
 use Rattle.records.specs.Places.{marker-from}
-use Rattle.records.proofs.TextMore.{size-encode}
 use Rattle.records.proofs.Decoded.{not-failed, only-inv, then-inv, cond-inv}
 use Rattle.records.proofs.FormatLaws.{text-some}
 
@@ -85,11 +84,11 @@ part-ends n s {t} {r} h =
     let l : n ≤ length s = leb-true n (length s) b in
     let et : take n s ≡ t = cc in
     let er : r ≡ drop n s = cc in
-    let en : size (chars t) ≡ n = size-encode (chars t) ∙ ap length (encode-chars t ∙ sym et) ∙ length-take-le n s l in
+    let en : size (chars t) ≡ n = size-chars t ∙ ap length (sym et) ∙ length-take-le n s l in
     (en, record { after = record { left = er; fits = l }; has = omega arith; text = rw (en, sub-self n, encode-chars t) et })
 
 text-length : (cs : List ℕ) (n : ℕ) → size cs ≡ n → 1 ≤ n → 4 + n ≡ length (text-form (encode cs))
-text-length cs n e l = rw (text-some cs (rw e l) .0, length-append, ← size-encode cs, e)
+text-length cs n e l = rw (text-some cs (rw e l) .0, length-append, size-encode cs, e)
 
 text-ends : (s : List ℕ) {cs r : List ℕ} → text-at s ≡ parsed cs r → Ends (length (text-form (encode cs))) s cs r
 unfolding text-at

@@ -11,7 +11,6 @@ use lib.ListN.{length, length-append}
 use Rattle.records.specs.Blocks.{Block}
 use Rattle.records.specs.Format.{encode-block, encode-blocks, WfBlock, WfBlocks}
 use Rattle.records.specs.Decode.{Bytes, parsed, block-at, blocks-at, decode-blocks}
-use Rattle.records.proofs.EncodedBytes.{bytes-blocks}
 use Rattle.records.proofs.Encoded.{block-at-of}
 use Rattle.records.proofs.Decoded.{not-failed, then-inv, block-inv}
 
@@ -82,9 +81,6 @@ decoded-are-records s h w = let x = all-inv (length s) s h w in (x .same, x .goo
 pub records-iff : (s : List ℕ) (bs : List Block) → Bytes s → (decode-blocks s ≡ parsed bs []) ↔ (WfBlocks bs × (s ≡ encode-blocks bs))
 records-iff s bs v =
     (λ h. let x = decoded-are-records s h v in (x .1, x .0), λ h. ap decode-blocks (h .1) ∙ records-give-back bs (h .0))
-
-pub records-are-bytes : (bs : List Block) → WfBlocks bs → Bytes (encode-blocks bs)
-records-are-bytes = bytes-blocks
 
 -- one record string has one list of blocks, and one list of blocks one record string
 pub one-list : (bs cs : List Block) → WfBlocks bs → WfBlocks cs → encode-blocks bs ≡ encode-blocks cs → bs ≡ cs

@@ -11,7 +11,8 @@ use lib.ListN.{length, drop, getD, length-drop, drop-of-length-le}
 use lib.Seq.{drop-drop, length-take-le}
 use borrow.Author.Tests.{le-leb, lt-leb, lt-ltb, le-ltb}
 use Rattle.text.specs.Utf8.{size, chars, is-utf8}
-use Rattle.text.proofs.Laws.{chars-nil, encode-chars}
+use Rattle.text.proofs.Laws.{chars-nil, size-chars}
+use Rattle.text.proofs.Lists.{drop-next}
 use Rattle.records.specs.Blocks.{Span}
 use Rattle.records.specs.Decode.{Parse, _▹_, u32, part, text-at, span-at, spans-at, failed, parsed}
 use Rattle.records.specs.Readers.{NumberIs, number-parse, number-next, between, Within, PartIs, part-placed, SpanIs, span-with, span-parse, span-placed, rest}
@@ -21,8 +22,6 @@ use Rattle.records.specs.declared.reader.Part.{Part}
 use Rattle.records.specs.declared.reader.Part.the-variants as P
 use Rattle.records.specs.declared.reader.SpanRead.{SpanRead}
 use Rattle.records.specs.declared.reader.SpanRead.the-variants as S
-use Rattle.records.proofs.TextMore.{size-encode}
-use Rattle.records.proofs.Front.{front}
 
 -- a callee's answer, once its case is known
 module _ {p : Parse ℕ} {s : List ℕ} {r : Number} (w : NumberIs p s r) where
@@ -50,7 +49,7 @@ pub between-size : (s : List ℕ) (start end : ℕ) → Within s start end → s
 between-size s start end w =
     let (l, m) = w in
     let n : end - start ≤ length (drop start s) = rw length-drop (omega arith) in
-    size-encode (chars (between s start end)) ∙ ap length (encode-chars (between s start end)) ∙ length-take-le (end - start) (drop start s) n
+    size-chars (between s start end) ∙ length-take-le (end - start) (drop start s) n
 
 module _ (s : List ℕ) (at : ℕ) {r : Number} (w : NumberIs (u32 (drop at s)) s r) where
   pub text-none : r ≡ Bad → PartIs (text-at (drop at s)) s P.Bad
@@ -83,26 +82,26 @@ span-end s at h = record { read = rw (drop-of-length-le s h); placed = tt }
 module _ (s : List ℕ) (at : ℕ) (h : at < length s) where
   pub span-low : getD s at 0 < 4 → SpanIs (span-at (drop at s)) s S.Bad
   unfolding span-at
-  span-low l = record { read = rw (front s at h, lt-leb 4 (getD s at 0) l); placed = tt }
+  span-low l = record { read = rw (drop-next s at h, lt-leb 4 (getD s at 0) l); placed = tt }
 
   module _ (lo : 4 ≤ getD s at 0) where
     pub span-high : 16 ≤ getD s at 0 → SpanIs (span-at (drop at s)) s S.Bad
     unfolding span-at
-    span-high l = record { read = rw (front s at h, le-leb 4 (getD s at 0) lo, le-ltb (getD s at 0) 16 l); placed = tt }
+    span-high l = record { read = rw (drop-next s at h, le-leb 4 (getD s at 0) lo, le-ltb (getD s at 0) 16 l); placed = tt }
 
     module _ (hi : getD s at 0 < 16) where
       pub span-bare : getD s at 0 < 8 → {x : SpanRead} → x ≡ span-with (getD s at 0) (at + 1) (at + 1) → SpanIs (span-at (drop at s)) s x
       unfolding span-at
-      span-bare l f = rw f (record { read = rw (front s at h, le-leb 4 (getD s at 0) lo, lt-ltb (getD s at 0) 16 hi, lt-ltb (getD s at 0) 8 l, sub-self (at + 1), chars-nil); placed = (omega arith, omega arith) })
+      span-bare l f = rw f (record { read = rw (drop-next s at h, le-leb 4 (getD s at 0) lo, lt-ltb (getD s at 0) 16 hi, lt-ltb (getD s at 0) 8 l, sub-self (at + 1), chars-nil); placed = (omega arith, omega arith) })
 
       module _ (l : 8 ≤ getD s at 0) {r : Part} (w : PartIs (text-at (drop (at + 1) s)) s r) where
         pub span-none : r ≡ P.Bad → SpanIs (span-at (drop at s)) s S.Bad
         unfolding span-at
-        span-none e = record { read = rw (front s at h, le-leb 4 (getD s at 0) lo, lt-ltb (getD s at 0) 16 hi, le-ltb (getD s at 0) 8 l, w .read, e); placed = tt }
+        span-none e = record { read = rw (drop-next s at h, le-leb 4 (getD s at 0) lo, lt-ltb (getD s at 0) 16 hi, le-ltb (getD s at 0) 8 l, w .read, e); placed = tt }
 
         pub span-is : {start end : ℕ} → r ≡ P.At start end → {x : SpanRead} → x ≡ span-with (getD s at 0) start end → SpanIs (span-at (drop at s)) s x
         unfolding span-at
-        span-is e f = rw f (record { read = rw (front s at h, le-leb 4 (getD s at 0) lo, lt-ltb (getD s at 0) 16 hi, le-ltb (getD s at 0) 8 l, w .read, e); placed = subst (part-placed s) e (w .placed) })
+        span-is e f = rw f (record { read = rw (drop-next s at h, le-leb 4 (getD s at 0) lo, lt-ltb (getD s at 0) 16 hi, le-ltb (getD s at 0) 8 l, w .read, e); placed = subst (part-placed s) e (w .placed) })
 
 -- several spans: what they are does not change where they end
 rest-of : {A B : Type 0} (p : Parse A) (f : A → B) → rest (p ▹ λ a q. parsed (f a) q) ≡ rest p

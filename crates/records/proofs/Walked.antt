@@ -9,11 +9,10 @@ use lib.Seq.{drop-append-seam}
 use borrow.Author.Tests.{ne-eqb}
 use Rattle.records.specs.Blocks.{Block}
 use Rattle.records.specs.Format.{encode-block, encode-blocks, WfBlock, WfBlocks}
-use Rattle.records.specs.Decode.{Bytes, failed, parsed, block-at, decode-blocks}
+use Rattle.records.specs.Decode.{failed, block-at}
 use Rattle.records.specs.Answers.{gives, found-at, block-answer, marker-answer, span-in, span-answer, text-answer}
 use Rattle.records.specs.Walk.{Shows, Ends, Refuses, Walk}
 use Rattle.records.proofs.Encoded.{block-at-of}
-use Rattle.records.proofs.RoundTrip.{decoded-are-records}
 use Rattle.records.proofs.WalkerLaws.{nothing-there, found-end, found-none}
 
 -- the answers, where it is known what stands at the offset
@@ -70,9 +69,3 @@ walk-from (b ∷ bs) pre w = (
 -- each block of the list, in order, from offset 0 on, and then the end
 pub walk-gives-back : (bs : List Block) → WfBlocks bs → Walk (encode-blocks bs) 0 bs
 walk-gives-back bs w = walk-from bs [] w
-
--- so too where the blocks are what bytes decode to
-pub walk-decoded : (s : List ℕ) (bs : List Block) (r : List ℕ) → Bytes s → decode-blocks s ≡ parsed bs r → Walk s 0 bs
-walk-decoded s bs r w h =
-    let x = decoded-are-records s h w in
-    rw (x .0) (walk-gives-back bs (x .1))

@@ -16,7 +16,7 @@ use Rattle.text.proofs.Tests.{within-true, within-is, and-true}
 use Rattle.records.specs.Blocks.{Block, Heading, Paragraph, Item}
 use Rattle.spans.specs.Spans.{spans}
 use Rattle.markdown.specs.Blocks.{Marked, marker-at, list-marker, Reader, reader, flush, heading, paragraph, read-text, read-line}
-use Rattle.markdown.proofs.Basics.{not-empty}
+use Rattle.markdown.proofs.RunLaws.{not-empty}
 use Rattle.sheet.proofs.Facts.{false-true, visible}
 use Rattle.sheet.proofs.LineEnd.{space-first, solid-drop}
 use Rattle.sheet.proofs.Fronts.{first-append, trim-start-is, trim-id, front-hash, front-bar, front-blank, front-empty, front-solid, front-marker, bulleted, no-rule, Good}

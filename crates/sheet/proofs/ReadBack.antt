@@ -18,12 +18,12 @@ use Rattle.html.specs.State.{special}
 use Rattle.records.specs.Blocks.{Span}
 use Rattle.spans.specs.Spans as S
 use Rattle.spans.specs.Spans.{Walk, at, push, cleared, flush, kept, code-step, star-step, step, walk, spans-at, spans}
-use Rattle.markdown.proofs.Basics.{not-empty}
 use Rattle.sheet.specs.Tree.{Kind, plain, strong, em, both, code, Run, run}
 use Rattle.sheet.specs.Grammar.{none-of, fits, touch, apart}
 use Rattle.sheet.specs.Written.{span, escaped, sign, written-run, written-runs}
 use Rattle.sheet.proofs.Facts.{true-false, ordinary}
 use Rattle.sheet.proofs.Conditions.{filled, code-text}
+use Rattle.markdown.proofs.RunLaws.{not-empty}
 
 -- ---- texts
 -- an ordinary character is kept

@@ -5,18 +5,18 @@ use mathlib.Core.Path.{_≡_, refl, sym, ap, _∙_}
 use mathlib.Core.Logic.{_⊎_, inl, inr, ⊎-elim}
 use Prim.Native.Nat.{ℕ, _+_, _<_}
 use native.Mathlib.Omega.{arith}
-use mathlib.Core.Bool.{Bool, true, false, cond}
+use mathlib.Core.Bool.{Bool, true, false}
 use mathlib.Core.Option.{none, some}
-use mathlib.Core.List.{List, [], _∷_, _++_, append-nil}
-use lib.ListN.{length, take, drop, length-append}
-use lib.Seq.{take-append-seam, drop-append-add, drop-drop}
+use mathlib.Core.List.{List, [], _∷_}
+use lib.ListN.{length, take, drop, getD}
+use lib.Seq.{drop-drop}
 use lib.Dec.{eqb}
-use borrow.Author.Tests.{lt-ltb, le-ltb, eqb-true}
+use borrow.Author.Tests.{eqb-true}
 use Rattle.text.specs.Words.{index, starts-with, starts}
 use Rattle.text.specs.Utf8.{chars}
 use Rattle.text.proofs.Tests.{and-true}
 use Rattle.text.proofs.Laws.{chars-nil}
-use Rattle.text.proofs.FindLaws.{until-since, chars-until, chars-since, index-until}
+use Rattle.text.proofs.FindLaws.{chars-until, chars-since, index-none, index-some, take-until, drop-until, since-head}
 use Rattle.text.proofs.AsciiLaws.{chars-ascii, starts-chars}
 use Rattle.text.specs.Find.{until, since}
 use Rattle.spans.specs.Spans.{link}
@@ -31,28 +31,14 @@ record Split (x : ℕ) (l rest : List ℕ) : Type 0 where
 
 since-some : (x : ℕ) (l : List ℕ) (y : ℕ) (ys : List ℕ) → since x l ≡ y ∷ ys → Split x l ys
 since-some x l y ys e =
-    let u : List ℕ = until x l in
-    let s : u ++ (y ∷ ys) ≡ l = ap (λ (z : List ℕ). u ++ z) (sym e) ∙ until-since x l in
-    let n : length u < length l = omega (arith, ap length s, length-append u (y ∷ ys)) in
     record {
-      is = rw (index-until x l, lt-ltb (length u) (length l) n);
-      before = ap (take (length u)) (sym s) ∙ take-append-seam u (y ∷ ys);
-      after = ap (drop (length u + 1)) (sym s) ∙ drop-append-add u (y ∷ ys) 1;
+      is = index-some x l (omega (arith, ap length e));
+      before = take-until x l;
+      after = drop-until x 1 l ∙ ap (drop 1) e;
     }
 
-since-none : (x : ℕ) (l : List ℕ) → since x l ≡ [] → index (x ∷ []) l ≡ none
-since-none x l e =
-    let u : List ℕ = until x l in
-    let s : u ≡ l = sym (append-nil u) ∙ ap (λ (z : List ℕ). u ++ z) (sym e) ∙ until-since x l in
-    rw (index-until x l, le-ltb (length u) (length l) (omega (arith, ap length s)))
-
-since-head : (x : ℕ) (l : List ℕ) (y : ℕ) (ys : List ℕ) → since x l ≡ y ∷ ys → y ≡ x
-since-head x [] y ys e = let z : _≡_ {A = ℕ} 0 1 = cc in absurd (omega arith)
-since-head x (c ∷ l) y ys e = go (eqb c x) refl (since-head x l y ys) e
-  where
-    go : (t : Bool) → eqb c x ≡ t → (since x l ≡ y ∷ ys → y ≡ x) → cond t (c ∷ l) (since x l) ≡ y ∷ ys → y ≡ x
-    go true f ih e = let z : c ≡ y = cc in sym z ∙ eqb-true c x f
-    go false f ih e = ih e
+since-first : (x : ℕ) (l : List ℕ) (y : ℕ) (ys : List ℕ) → since x l ≡ y ∷ ys → y ≡ x
+since-first x l y ys e = sym (ap (λ (z : List ℕ). getD z 0 0) e) ∙ since-head x l (omega (arith, ap length e))
 
 -- ---- one mark in bytes and in characters
 
@@ -68,9 +54,9 @@ pub both : (x : ℕ) → x < 0x80 → (bs : List ℕ) → Hit x bs ⊎ ((index (
 both x low bs = go (since x bs) refl
   where
     go : (l : List ℕ) → since x bs ≡ l → Hit x bs ⊎ ((index (x ∷ []) bs ≡ none) × (index (x ∷ []) (chars bs) ≡ none))
-    go [] e = inr (since-none x bs e, since-none x (chars bs) (sym (chars-since x low bs) ∙ ap chars e ∙ chars-nil))
+    go [] e = inr (index-none x bs e, index-none x (chars bs) (sym (chars-since x low bs) ∙ ap chars e ∙ chars-nil))
     go (y ∷ ys) e =
-        let y-is = since-head x bs y ys e in
+        let y-is = since-first x bs y ys e in
         let p = since-some x bs y ys e in
         let q = since-some x (chars bs) y (chars ys) (sym (chars-since x low bs) ∙ ap chars e ∙ chars-ascii y ys (omega arith)) in
         inl

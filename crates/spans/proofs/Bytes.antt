@@ -17,7 +17,7 @@ use Rattle.text.specs.declared.Char.{Char}
 use Rattle.text.specs.declared.Char.the-variants.{At, Bad, End}
 use Rattle.text.proofs.Tests.{decide}
 use Rattle.text.proofs.Utf8.{utf8-1, utf8-stray, sound, char-at}
-use Rattle.text.proofs.Laws.{chars-nil, chars-at, chars-bad, Tails, Long, utf8-long, utf8-size, encode-append, encode-chars}
+use Rattle.text.proofs.Laws.{chars-nil, chars-at, chars-bad, Long, utf8-long, utf8-size, encode-append, encode-chars, High, tails-high}
 use Rattle.text.proofs.AsciiLaws.{chars-ascii, chars-high}
 use Rattle.records.specs.Blocks.{Span}
 use Rattle.spans.specs.Spans.{Walk, at, push, span, flush, link, Step, made, label, kept, code-step, star-step, link-step, image-step, step, carry, walk, spans}
@@ -99,11 +99,6 @@ step-plain w c s f₁ f₂ f₃ f₄ f₅ = rw (ne-eqb c 92 f₁, ne-eqb c 96 f�
 step-high : (w : Walk) (c : ℕ) (s : List ℕ) → 0x80 ≤ c → step w c s ≡ kept w c
 step-high w c s h = step-plain w c s (λ e. omega arith) (λ e. omega arith) (λ e. omega arith) (λ e. omega arith) (λ e. omega arith)
 
--- bytes that are no ASCII
-abbrev High : List ℕ → Type 0
-High [] = Unit
-High (x ∷ l) = (0x80 ≤ x) × High l
-
 high-run : (b i : Bool) (x u rest : List ℕ) → High u → walk spans (over b i x) 0 (u ++ rest) ≡ walk spans (over b i (x ++ u)) 0 rest
 high-run b i x [] rest h = ap (λ (l : List ℕ). walk spans (over b i l) 0 rest) (sym (append-nil x))
 high-run b i x (c ∷ u) rest h =
@@ -122,10 +117,6 @@ record Wide (y : ℕ) (ys : List ℕ) : Type 0 where
   high : 0x80 ≤ code
   tail-high : High tail
   read : chars (y ∷ ys) ≡ code ∷ chars rest
-
-tails-high : (l : List ℕ) → Tails l → High l
-tails-high [] h = tt
-tails-high (x ∷ l) h = (h .0 .0, tails-high l (h .1))
 
 long-tails : (l : List ℕ) (y : ℕ) (t : List ℕ) → Long l → l ≡ y ∷ t → High t
 long-tails [] y t h e = absurd h

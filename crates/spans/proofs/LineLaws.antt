@@ -4,7 +4,7 @@ use mathlib.Core.Path.{_≡_, refl, sym, ap, ap₂, _∙_}
 use Prim.Native.Nat.{ℕ, _+_, _*_, _^_, _≤_, _<_}
 use native.Mathlib.Nat.{add-zero}
 use native.Mathlib.Omega.{arith}
-use mathlib.Core.Bool.{Bool, true, false, _&&_, _||_}
+use mathlib.Core.Bool.{Bool, false, _&&_, or-false}
 use mathlib.Core.List.{List, [], _∷_, _++_, map}
 use lib.ListN.{length, length-map}
 use lib.Seq.{sets}
@@ -20,10 +20,6 @@ use Rattle.spans.specs.Line.{line-spans}
 use Rattle.spans.specs.Turn.{record-of, records-of}
 use Rattle.spans.proofs.Bounds.{spans-few}
 use Rattle.spans.proofs.Bytes.{as-bytes, spans-bytes}
-
-or-false : (b : Bool) → b || false ≡ b
-or-false true = refl
-or-false false = refl
 
 record-same : (s : Span) → record-of false false (as-bytes s) ≡ encode-span s
 unfolding encode-span

@@ -3,7 +3,7 @@
 use mathlib.Core.Path.{_≡_, refl, sym, ap, ap₂, _∙_}
 use Prim.Native.Nat.{ℕ, _≤_}
 use native.Mathlib.Omega.{arith}
-use mathlib.Core.Bool.{Bool, true, false, _||_}
+use mathlib.Core.Bool.{Bool, _||_, or-assoc}
 use mathlib.Core.List.{List, [], _∷_, _++_, map, append-assoc, append-nil}
 use lib.ListN.{length, length-append}
 use Rattle.records.specs.Blocks.{Span}
@@ -15,10 +15,6 @@ pub rec-append : (b i : Bool) (xs ys : List Span) → records-of b i (xs ++ ys) 
 unfolding records-of
 rec-append b i [] ys = refl
 rec-append b i (s ∷ xs) ys = ap (λ (l : List ℕ). record-of b i s ++ l) (rec-append b i xs ys) ∙ sym (append-assoc (record-of b i s) _ _)
-
-or-assoc : (x y z : Bool) → x || y || z ≡ x || (y || z)
-or-assoc true y z = refl
-or-assoc false y z = refl
 
 -- the emphasis around a label's spans goes into their records
 pub rec-carry : (b i : Bool) (w : Walk) (xs : List Span) → records-of b i (map (carry w) xs) ≡ records-of (w .bold || b) (w .italic || i) xs

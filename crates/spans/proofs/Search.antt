@@ -16,6 +16,7 @@ use Rattle.text.specs.Words.{if_then_else_, _>>=_, ensure, index, find, starts}
 use Rattle.text.specs.Find.{found}
 use Rattle.text.specs.declared.Found.the-variants.{Here, Nowhere}
 use Rattle.text.proofs.Tests.{decide, on}
+use Rattle.text.proofs.FindLaws.{found-some, found-none}
 use Rattle.spans.specs.Spans.{link}
 use Rattle.spans.specs.State.{next-at, placed, link-at, Clear, Known, resumed}
 use Rattle.spans.specs.declared.Link.the-variants.{Ends, Nothing}
@@ -127,14 +128,6 @@ module _ (s seen : List ℕ) (known : Known s seen) (low high : ℕ) where
   })
 
 -- ---- what a search found
-
-found-some : (i : ℕ) (o : Option ℕ) (k : ℕ) → found i o ≡ Here k → (n : ℕ) × (o ≡ some n) × (i + n ≡ k)
-found-some i none k e = (0, cc, cc)
-found-some i (some n) k e = (n, refl, cc)
-
-found-none : (i : ℕ) (o : Option ℕ) → found i o ≡ Nowhere → o ≡ none
-found-none i none e = refl
-found-none i (some n) e = cc
 
 -- the first x from i on stands n places after it
 pub record At (x : ℕ) (s : List ℕ) (i k : ℕ) : Type 0 where

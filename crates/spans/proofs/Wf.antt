@@ -1,15 +1,15 @@
 -- The spans of a line have records: where its characters are scalar values so are those of each text, and a text is empty only in code.
 -- Assumes nothing.
-use mathlib.Core.Path.{_≡_, refl, sym, ap, subst}
+use mathlib.Core.Path.{_≡_, refl, ap}
 use Prim.Native.Nat.{ℕ, zero, suc, _+_, _^_, _≤_, _<_}
 use native.Mathlib.Omega.{arith}
 use mathlib.Core.Bool.{true, false, not, _&&_, _||_}
-use mathlib.Core.List.{List, [], _∷_, _++_, map, reverse, reverse-cons}
+use mathlib.Core.List.{List, [], _∷_, _++_, map, reverse}
 use lib.ListN.{length, take, drop, getD, length-reverse}
 use Rattle.text.specs.Words.{is, is-empty, starts, find}
 use Rattle.text.specs.Utf8.{IsScalar, Scalars, size}
 use Rattle.text.proofs.Tests.{on, and-true, or-right}
-use Rattle.text.proofs.Laws.{scalars-append}
+use Rattle.text.proofs.Laws.{scalars-take, scalars-drop, scalars-reverse}
 use Rattle.records.specs.Blocks.{Span}
 use Rattle.records.specs.Format.{non-empty, WfSpans}
 use Rattle.spans.specs.Spans.{Walk, at, push, span, flush, link, Step, made, kept, code-step, star-step, link-step, image-step, step, carry, walk, spans}
@@ -19,21 +19,6 @@ use Rattle.spans.proofs.Turns.{texts, flushed, by-case, not-empty}
 use Rattle.spans.proofs.Bounds.{bytes, weigh-bytes, spans-texts}
 
 -- ---- scalar values in parts of a list
-
-scalars-take : (n : ℕ) (s : List ℕ) → Scalars s → Scalars (take n s)
-scalars-take zero s h = tt
-scalars-take (suc n) [] h = tt
-scalars-take (suc n) (c ∷ s) h = (h .0, scalars-take n s (h .1))
-
-scalars-drop : (n : ℕ) (s : List ℕ) → Scalars s → Scalars (drop n s)
-scalars-drop zero s h = h
-scalars-drop (suc n) [] h = h
-scalars-drop (suc n) (c ∷ s) h = scalars-drop n s (h .1)
-
-scalars-reverse : (s : List ℕ) → Scalars s → Scalars (reverse s)
-scalars-reverse [] h = h
-scalars-reverse (c ∷ s) h =
-    subst Scalars (sym (reverse-cons c s)) (scalars-append (reverse s) (c ∷ []) (scalars-reverse s (h .1)) (h .0, tt))
 
 scalars-first : (s : List ℕ) → 1 ≤ length s → Scalars s → IsScalar (getD s 0 0)
 scalars-first [] l h = absurd (omega arith)

@@ -1,8 +1,8 @@
 -- `markdown::shape::digits_of` meets its contract. The loop's invariant: from i on the digits go on as from the start, less what was passed.
 -- Assumes nothing.
-use Rattle.markdown.proofs.RunLaws.{run-next, run-stop, run-end}
 use Rattle.text.specs.Chars.{is-digit}
 use Rattle.text.specs.Words.{take-while}
+use Rattle.text.proofs.RunLaws.{run-next, run-stop, run-end}
 use lib.ListN.{length, drop}
 use borrow.Author.Tests.{not-true, not-false}
 use borrow.Author.Needs.{needs}

@@ -1,7 +1,7 @@
 -- `markdown::shape::run_of` meets its contract. The loop's invariant: from i on the run goes on as from the start, less what was passed.
 -- Assumes nothing.
-use Rattle.markdown.proofs.RunLaws.{run-next, run-stop, run-end}
 use Rattle.text.specs.Words.{take-while}
+use Rattle.text.proofs.RunLaws.{run-next, run-stop, run-end}
 use lib.ListN.{length, drop}
 use lib.Dec.{eqb}
 use borrow.Author.Tests.{eq-eqb, ne-eqb}
