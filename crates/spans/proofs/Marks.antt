@@ -1,18 +1,19 @@
 -- The turn of the walk at each mark, by what stands after it.
 -- Assumes nothing.
-use mathlib.Core.Path.{_≡_, sym, ap, _∙_}
+use mathlib.Core.Path.{_≡_, refl, sym, ap, _∙_}
 use Prim.Native.Nat.{ℕ, _+_, _≤_, _<_}
 use native.Mathlib.Numerals.{add-one}
-use mathlib.Core.Bool.{not}
+use mathlib.Core.Bool.{Bool, true, false, not, _||_}
 use mathlib.Core.Option.{none, some}
 use mathlib.Core.List.{List, [], _∷_, _++_, map}
 use lib.ListN.{length, take, drop, getD, drop-of-length-le}
 use lib.Seq.{drop-cons}
-use borrow.Author.Tests.{eq-eqb, ne-eqb}
+use lib.Dec.{eqb}
+use borrow.Author.Tests.{not-false, eq-eqb, ne-eqb, eqb-true}
 use Rattle.text.specs.Words.{index}
 use Rattle.spans.specs.Spans.{push, at, flush, link, Step, made, label, kept, code-step, star-step, link-step, image-step, step, carry, spans}
 use Rattle.spans.specs.Turn.{Turn, turn, linked, turned}
-use Rattle.spans.specs.State.{code-span, walk-of, turn-at}
+use Rattle.spans.specs.State.{plain, code-span, walk-of, turn-at}
 use Rattle.spans.specs.declared.State.{State}
 
 -- ---- the turn of the walk at a byte that is known, by what stands after it
@@ -104,3 +105,12 @@ module _ (line : List ℕ) (w : State) (text : List ℕ) where
   unfolding step turned
   plain-turn c e f₁ f₂ f₃ f₄ f₅ =
       at-step c (kept (walk-of w text) c) e (rw (ne-eqb c 92 f₁, ne-eqb c 96 f₂, ne-eqb c 42 f₃, ne-eqb c 91 f₄, ne-eqb c 33 f₅))
+
+-- a mark that is no other is `!`
+pub last-mark : (c : ℕ) → plain c ≡ false → (c ≡ 92 → ⊥) → (c ≡ 96 → ⊥) → (c ≡ 42 → ⊥) → (c ≡ 91 → ⊥) → c ≡ 33
+unfolding plain
+last-mark c p f₁ f₂ f₃ f₄ = eqb-true c 33 (last (eqb c 33) (not-false _ (rw (ne-eqb c 92 f₁, ne-eqb c 96 f₂, ne-eqb c 42 f₃, ne-eqb c 91 f₄) at p)))
+  where
+    last : (t : Bool) → t || false ≡ true → t ≡ true
+    last true e = refl
+    last false e = e

@@ -2,13 +2,13 @@
 -- Assumes nothing.
 use mathlib.Core.Path.{_≡_}
 use Prim.Native.Nat.{ℕ, zero, suc, _+_, _-_, _*_, _^_, _<_, _≤_}
-use mathlib.Core.Bool.{Bool, true}
+use mathlib.Core.Bool.{Bool, true, not}
 use mathlib.Core.Option.{Option, none, some}
 use mathlib.Core.List.{List, [], _∷_, reverse}
 use lib.ListN.{length, drop, getD}
 use lib.Seq.{sets}
 use lib.Dec.{ltb}
-use Rattle.text.specs.Words.{if_then_else_, index}
+use Rattle.text.specs.Words.{if_then_else_, index, matches}
 use Rattle.text.specs.Find.{found}
 use Rattle.text.specs.declared.Found.{Found}
 use Rattle.records.specs.Blocks.{Span}
@@ -68,6 +68,13 @@ ended-at w i at count = record { i = i; at = at; len = 0; count = count; bold = 
 -- a byte more of pending text
 abbrev pub push-of : State → ℕ → State
 push-of w used = record { i = w .i + used; at = w .at; len = w .len + 1; count = w .count; bold = w .bold; italic = w .italic }
+
+-- a byte that is no mark, and n bytes more of pending text
+unfoldable pub plain : ℕ → Bool
+plain x = not (matches "\\`*[!" x)
+
+abbrev pub push-all-of : State → ℕ → State
+push-all-of w n = record { i = w .i + n; at = w .at; len = w .len + n; count = w .count; bold = w .bold; italic = w .italic }
 
 -- pending text of n bytes, ended
 abbrev pub flush-by : ℕ → State → State

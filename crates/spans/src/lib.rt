@@ -1,15 +1,16 @@
 // The spans of a line: bold, italic, code, links and images, read from the line's bytes and written as records.
 ghost use mathlib.Core.Path.{_≡_};
-ghost use Prim.Native.Nat.{_+_, _*_, _^_, _<_};
+ghost use Prim.Native.Nat.{_+_, _*_, _^_, _-_, _≤_, _<_};
 ghost use mathlib.Core.Bool.{Bool, true, false, _||_};
-ghost use lib.ListN.{length, set, getD};
+ghost use lib.ListN.{length, set, getD, take, drop};
 ghost use lib.Seq.{sets};
 ghost use lib.Dec.{eqb};
+ghost use Rattle.text.specs.Words.{all};
 ghost use Rattle.records.specs.Format.{span-map, encode-spans};
 ghost use Rattle.spans.specs.Spans.{spans};
 ghost use Rattle.spans.specs.Line.{line-spans};
 ghost use Rattle.spans.specs.Turn.{record-of, records-of};
-ghost use Rattle.spans.specs.State.{next-at, link-at, Known, resumed, head, moved-to, ended-at, push-of, flush-of, code-span, code-of, pend, link-to, link-head, Ready, Does};
+ghost use Rattle.spans.specs.State.{next-at, link-at, Known, resumed, head, moved-to, ended-at, push-of, flush-of, code-span, code-of, pend, link-to, link-head, Ready, Does, plain, push-all-of};
 use records::writer::put;
 use records::writer::put_bytes;
 use records::writer::put_head;
@@ -178,6 +179,42 @@ fn push(w: State, c: u8, used: usize, out: &mut [u8]) -> State
     }
 }
 
+// A byte that is no mark.
+fn is_plain(c: u8) -> bool
+    ensures { λ r. ⌜ r ≡ plain c ⌝ }
+{
+    !((c == b'\\') | (c == b'`') | (c == b'*') | (c == b'[') | (c == b'!'))
+}
+
+// Where the bytes from i on that are no marks end.
+fn plain_end(line: &[u8], i: usize) -> usize
+    requires { ⌜ i ≤ length (now line) ⌝ }
+    ensures { λ r. ⌜ (i ≤ r) × ((r ≤ length (now (line .entry))) × (all plain (take (r - i) (drop i (now (line .entry)))) ≡ true)) ⌝ }
+{
+    let mut j = i;
+    while j < line.len() {
+        if !is_plain(line[j]) {
+            return j;
+        }
+        j += 1;
+    }
+    j
+}
+
+// The bytes up to `end` join the pending text.
+fn push_all(line: &[u8], w: State, end: usize, out: &mut [u8]) -> State
+    requires { ⌜ (w .at + w .len < 2 ^ 62) × ((w .i ≤ end) × ((end ≤ length (now line)) × (length (now line) < 2 ^ 62))) ⌝ }
+    ensures { λ r. ⌜ (r ≡ push-all-of w (end - w .i)) × (now (out .exit) ≡ sets (now (out .entry)) (w .at + 5 + w .len) (take (end - w .i) (drop (w .i) (now (line .entry))))) ⌝ }
+{
+    let i = w.i;
+    put_bytes(out, w.at + 5 + w.len, &line[i..end]);
+    State {
+        i: end,
+        len: w.len + (end - i),
+        ..w
+    }
+}
+
 // The pending text becomes a span, unless it is empty.
 fn flush(w: State, bold: bool, italic: bool, out: &mut [u8]) -> State
     requires { ⌜ (w .at + w .len < 2 ^ 63) × (w .count < 2 ^ 63) ⌝ }
@@ -289,7 +326,7 @@ fn bang(line: &[u8], w: State, out: &mut [u8], seen: &mut [usize; 6]) -> State
     moved(w, end + 1, w.bold, w.italic)
 }
 
-// The turn at any byte but `[`.
+// The turn at a mark but `[`.
 fn turn(
     line: &[u8],
     w: State,
@@ -298,17 +335,15 @@ fn turn(
     out: &mut [u8],
     seen: &mut [usize; 6],
 ) -> State
-    requires { ⌜ Ready (now line) w × ((getD (now line) (w .i) 0 ≡ 91 → ⊥) × Known (now line) (now seen)) ⌝ }
+    requires { ⌜ Ready (now line) w × ((plain (getD (now line) (w .i) 0) ≡ false) × ((getD (now line) (w .i) 0 ≡ 91 → ⊥) × Known (now line) (now seen))) ⌝ }
     ensures { λ r. ⌜ Does bold italic (now (line .entry)) w (now (out .entry)) r (now (out .exit)) × Known (now (line .entry)) (now (seen .exit)) ⌝ }
 {
     let i = w.i;
-    let c = line[i];
-    match c {
+    match line[i] {
         b'\\' => escape(line, w, out),
         b'`' => tick(line, w, bold, italic, out, seen),
         b'*' => star(line, w, bold, italic, out),
-        b'!' => bang(line, w, out, seen),
-        _ => push(w, c, 1, out),
+        _ => bang(line, w, out, seen),
     }
 }
 
@@ -350,7 +385,12 @@ fn spans_in(line: &[u8], bold: bool, italic: bool, out: &mut [u8], at: usize) ->
     let mut seen = [0usize; 6];
     while w.i < line.len() {
         let i = w.i;
-        if line[i] != b'[' {
+        let c = line[i];
+        if is_plain(c) {
+            w = push_all(line, w, plain_end(line, i + 1), out);
+            continue;
+        }
+        if c != b'[' {
             w = turn(line, w, bold, italic, out, &mut seen);
             continue;
         }

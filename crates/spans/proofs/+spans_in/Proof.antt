@@ -1,6 +1,6 @@
 -- The proof of the cycle of calls {spans_in}. The measure is the line's length: a label is shorter than its line.
 -- Assumes nothing.
-use mathlib.Core.Path.{refl, sym, _∙_}
+use mathlib.Core.Path.{refl, sym, ap, _∙_}
 use Prim.Native.Nat.{ℕ, _+_, _-_, _<_}
 use native.Mathlib.Omega.{arith}
 use lib.ListN.{length, take, drop, length-take, length-drop}
@@ -8,10 +8,11 @@ use borrow.Author.Needs.{needs}
 use borrow.Fn.Kinds.{In}
 use borrow.Fn.PlainCycle.{Measures, is, falls, and}
 use Rattle.spans.specs.State.{Known}
+use Rattle.spans.specs.declared.State.{State}
 use Rattle.spans.proofs.Search.{known-none, link-found, unlinked}
 use Rattle.spans.proofs.Marks.{open-none}
 use Rattle.spans.proofs.Made.{made-as, push-made}
-use Rattle.spans.proofs.Loop.{Walking, start, ready, finish, label-made, label-few, pend-small, bounds, same-long, advanced}
+use Rattle.spans.proofs.Loop.{Walking, start, ready, finish, label-made, label-few, pend-small, bounds, same-long, advanced, whole-run, pushed-on}
 use Rattle.spans.proofs.spans_in.Reads as spans-in
 use Rattle.spans.proofs.spans_in.Kinds as kinds
 use Rattle.spans.proofs.+spans_in.Lts-spans_in as lts
@@ -21,6 +22,9 @@ use Rattle.spans.proofs.flush.Reads as flush-reads
 use Rattle.spans.proofs.join_label.Reads as join-label-reads
 use Rattle.spans.proofs.push.Reads as push-reads
 use Rattle.spans.proofs.text_end.Reads as text-end-reads
+use Rattle.spans.proofs.is_plain.Reads as is-plain-reads
+use Rattle.spans.proofs.plain_end.Reads as plain-end-reads
+use Rattle.spans.proofs.push_all.Reads as push-all-reads
 use Rattle.spans.proofs.turn.Reads as turn-reads
 use Rattle.spans.proofs.+spans_in.{statement}
 use Rattle.spans.proofs.+spans_in.Tie.{close}
@@ -36,7 +40,7 @@ spans-in-below t = and 2 kinds.ps (falls 2 kinds.ps _<_ μ-spans-in t) spans-in.
 
 -- what the callees ask and ensure
 abbrev told : ℕ → lts.Claims
-told t = (turn-reads.Asked, turn-reads.Learnt, find-link-reads.Asked, find-link-reads.Learnt, push-reads.Asked, push-reads.Learnt, either-reads.Asked, either-reads.Learnt, text-end-reads.Asked, text-end-reads.Learnt, spans-in-below t, spans-in.Post, join-label-reads.Asked, join-label-reads.Learnt, flush-reads.Asked, flush-reads.Learnt)
+told t = (is-plain-reads.Asked, is-plain-reads.Learnt, plain-end-reads.Asked, plain-end-reads.Learnt, push-all-reads.Asked, push-all-reads.Learnt, turn-reads.Asked, turn-reads.Learnt, find-link-reads.Asked, find-link-reads.Learnt, push-reads.Asked, push-reads.Learnt, either-reads.Asked, either-reads.Learnt, text-end-reads.Asked, text-end-reads.Learnt, spans-in-below t, spans-in.Post, join-label-reads.Asked, join-label-reads.Learnt, flush-reads.Asked, flush-reads.Learnt)
 
 abbrev Inv-loop : lts.InvT-loop
 Inv-loop line bold italic out₀ at w₀ seen₀ out w seen = Walking bold italic line out₀ at w out × Known line seen
@@ -47,32 +51,62 @@ abbrev μ-loop : lts.MeasureT-loop
 loop-holds : (t : ℕ) → lts.Need-loop-holds (told t) (spans-in-at t) spans-in.Post Inv-loop μ-loop
 loop-holds t c = (start (c .before .before .args .bold) (c .before .before .args .italic) (c .before .before .args .line .now) (c .before .before .args .out .now) (c .before .before .args .at), known-none (c .before .before .args .line .now))
 
-shared-slice-read-if2 : (t : ℕ) → lts.Need-shared-slice-read-if2 (told t) (spans-in-at t) spans-in.Post Inv-loop μ-loop
-shared-slice-read-if2 t c = c .before .if1 .taken
+shared-slice-read-c : (t : ℕ) → lts.Need-shared-slice-read-c (told t) (spans-in-at t) spans-in.Post Inv-loop μ-loop
+shared-slice-read-c t c = c .before .if1 .taken
 
-turn-requires : (t : ℕ) → lts.Need-turn-requires (told t) (spans-in-at t) spans-in.Post Inv-loop μ-loop
-turn-requires t c κs =
-    let a = c .before .before .before .before .before .before .before .before .before .args in
-    let l = c .before .before .before .before .before .before .loop in
-    (ready (a .bold) (a .italic) (a .line .now) (a .out .now) (a .at) (l .w) (l .out) (l .inv .0) (c .before .before .before .before .before .before .before .before .before .pre .1) (c .before .before .before .before .if1 .taken), (c .before .before .if2 .taken, l .inv .1))
+is-plain-requires : (t : ℕ) → lts.Need-is-plain-requires (told t) (spans-in-at t) spans-in.Post Inv-loop μ-loop
+is-plain-requires t c κs = search needs
+
+add-plain-end : (t : ℕ) → lts.Need-add-plain-end (told t) (spans-in-at t) spans-in.Post Inv-loop μ-loop
+add-plain-end t c = omega (arith, c .before .before .before .if1 .taken, c .before .before .before .before .before .before .before .before .pre .1)
+
+plain-end-requires : (t : ℕ) → lts.Need-plain-end-requires (told t) (spans-in-at t) spans-in.Post Inv-loop μ-loop
+plain-end-requires t c κs = omega (arith, c .before .before .before .if1 .taken)
+
+push-all-requires : (t : ℕ) → lts.Need-push-all-requires (told t) (spans-in-at t) spans-in.Post Inv-loop μ-loop
+push-all-requires t c κs =
+    let a = c .before .before .before .before .before .before .before .before .before .before .args in
+    let l = c .before .before .before .before .before .before .before .loop in
+    let b = bounds (a .bold) (a .italic) (a .line .now) (a .out .now) (a .at) (l .w) (l .out) (l .inv .0) (c .before .before .before .before .before .before .before .before .before .before .pre .1) in
+    (b .0, (omega (arith, c .before .plain-end .ensures .0), (c .before .plain-end .ensures .1 .0, omega (arith, c .before .before .before .before .before .before .before .before .before .before .pre .1))))
 
 loop-less : (t : ℕ) → lts.Need-loop-less (told t) (spans-in-at t) spans-in.Post Inv-loop μ-loop
 loop-less t c =
-    let a = c .before .before .before .before .before .before .before .before .before .before .before .before .args in
-    let l = c .before .before .before .before .before .before .before .before .before .loop in
-    advanced (a .bold) (a .italic) (a .line .now) (a .out .now) (a .at) (l .w) (l .out) (l .inv .0) (c .before .before .before .before .before .before .before .if1 .taken) (c .before .before .turn .ensures .0 (l .inv .0 .text) (l .inv .0 .len)) .1
+    let a = c .before .before .before .before .before .before .before .before .before .before .before .before .before .args in
+    let l = c .before .before .before .before .before .before .before .before .before .before .loop in
+    omega (arith, c .before .before .before .before .before .before .before .before .if1 .taken, ap (λ (z : State). z .i) (c .before .before .push-all .ensures .0), c .before .before .before .before .plain-end .ensures .0, c .before .before .before .before .plain-end .ensures .1 .0)
 
 loop-again : (t : ℕ) → lts.Need-loop-again (told t) (spans-in-at t) spans-in.Post Inv-loop μ-loop
 loop-again t c =
-    let a = c .before .before .before .before .before .before .before .before .before .before .before .before .args in
-    let l = c .before .before .before .before .before .before .before .before .before .loop in
-    (advanced (a .bold) (a .italic) (a .line .now) (a .out .now) (a .at) (l .w) (l .out) (l .inv .0) (c .before .before .before .before .before .before .before .if1 .taken) (c .before .before .turn .ensures .0 (l .inv .0 .text) (l .inv .0 .len)) .0, c .before .before .turn .ensures .1)
+    let a = c .before .before .before .before .before .before .before .before .before .before .before .before .before .args in
+    let l = c .before .before .before .before .before .before .before .before .before .before .loop in
+    let e = c .before .before .before .before .plain-end .result in
+    let p = whole-run (a .line .now) (l .w .i) e (c .before .before .before .before .before .before .before .before .if1 .taken) (sym (c .before .before .before .before .before .before .is-plain .ensures) ∙ c .before .before .before .before .before .if2 .taken) (c .before .before .before .before .plain-end .ensures .0) (c .before .before .before .before .plain-end .ensures .1 .1) in
+    (pushed-on (a .bold) (a .italic) (a .line .now) (a .out .now) (a .at) (l .w) (l .out) (l .inv .0) (e - l .w .i) (omega (arith, c .before .before .before .before .plain-end .ensures .0, c .before .before .before .before .plain-end .ensures .1 .0)) p (c .before .before .push-all .ensures .0) (c .before .before .push-all .ensures .1), l .inv .1)
+
+turn-requires : (t : ℕ) → lts.Need-turn-requires (told t) (spans-in-at t) spans-in.Post Inv-loop μ-loop
+turn-requires t c κs =
+    let a = c .before .before .before .before .before .before .before .before .before .before .before .args in
+    let l = c .before .before .before .before .before .before .before .before .loop in
+    (ready (a .bold) (a .italic) (a .line .now) (a .out .now) (a .at) (l .w) (l .out) (l .inv .0) (c .before .before .before .before .before .before .before .before .before .before .before .pre .1) (c .before .before .before .before .before .before .if1 .taken), (sym (c .before .before .before .before .is-plain .ensures) ∙ c .before .before .before .if2 .left, (c .before .before .if3 .taken, l .inv .1)))
+
+loop-less-2 : (t : ℕ) → lts.Need-loop-less-2 (told t) (spans-in-at t) spans-in.Post Inv-loop μ-loop
+loop-less-2 t c =
+    let a = c .before .before .before .before .before .before .before .before .before .before .before .before .before .before .args in
+    let l = c .before .before .before .before .before .before .before .before .before .before .before .loop in
+    advanced (a .bold) (a .italic) (a .line .now) (a .out .now) (a .at) (l .w) (l .out) (l .inv .0) (c .before .before .before .before .before .before .before .before .before .if1 .taken) (c .before .before .turn .ensures .0 (l .inv .0 .text) (l .inv .0 .len)) .1
+
+loop-again-2 : (t : ℕ) → lts.Need-loop-again-2 (told t) (spans-in-at t) spans-in.Post Inv-loop μ-loop
+loop-again-2 t c =
+    let a = c .before .before .before .before .before .before .before .before .before .before .before .before .before .before .args in
+    let l = c .before .before .before .before .before .before .before .before .before .before .before .loop in
+    (advanced (a .bold) (a .italic) (a .line .now) (a .out .now) (a .at) (l .w) (l .out) (l .inv .0) (c .before .before .before .before .before .before .before .before .before .if1 .taken) (c .before .before .turn .ensures .0 (l .inv .0 .text) (l .inv .0 .len)) .0, c .before .before .turn .ensures .1)
 
 add-from : (t : ℕ) → lts.Need-add-from (told t) (spans-in-at t) spans-in.Post Inv-loop μ-loop
 add-from t c = omega arith
 
 find-link-requires : (t : ℕ) → lts.Need-find-link-requires (told t) (spans-in-at t) spans-in.Post Inv-loop μ-loop
-find-link-requires t c κs = c .before .before .before .before .before .loop .inv .1
+find-link-requires t c κs = c .before .before .before .before .before .before .before .loop .inv .1
 
 enum-known-close : (t : ℕ) → lts.Need-enum-known-close (told t) (spans-in-at t) spans-in.Post Inv-loop μ-loop
 enum-known-close t c = search needs
@@ -82,24 +116,24 @@ enum-told t c = search needs
 
 push-requires : (t : ℕ) → lts.Need-push-requires (told t) (spans-in-at t) spans-in.Post Inv-loop μ-loop
 push-requires t c κs =
-    let a = c .before .before .before .before .before .before .before .before .before .before .before .before .args in
-    let l = c .before .before .before .before .before .before .before .before .before .loop in
-    omega (arith, bounds (a .bold) (a .italic) (a .line .now) (a .out .now) (a .at) (l .w) (l .out) (l .inv .0) (c .before .before .before .before .before .before .before .before .before .before .before .before .pre .1), c .before .before .before .before .before .before .before .if1 .taken, c .before .before .before .before .before .before .before .before .before .before .before .before .pre .1)
+    let a = c .before .before .before .before .before .before .before .before .before .before .before .before .before .before .args in
+    let l = c .before .before .before .before .before .before .before .before .before .before .before .loop in
+    omega (arith, bounds (a .bold) (a .italic) (a .line .now) (a .out .now) (a .at) (l .w) (l .out) (l .inv .0) (c .before .before .before .before .before .before .before .before .before .before .before .before .before .before .pre .1), c .before .before .before .before .before .before .before .before .before .if1 .taken, c .before .before .before .before .before .before .before .before .before .before .before .before .before .before .pre .1)
 
-loop-less-2 : (t : ℕ) → lts.Need-loop-less-2 (told t) (spans-in-at t) spans-in.Post Inv-loop μ-loop
-loop-less-2 t c =
-    let a = c .before .before .before .before .before .before .before .before .before .before .before .before .before .before .before .args in
-    let l = c .before .before .before .before .before .before .before .before .before .before .before .before .loop in
-    advanced (a .bold) (a .italic) (a .line .now) (a .out .now) (a .at) (l .w) (l .out) (l .inv .0) (c .before .before .before .before .before .before .before .before .before .before .if1 .taken)
-    (made-as (open-none (a .line .now) (l .w) (l .inv .0 .text) (c .before .before .before .before .before .before .before .before .if2 .left) (unlinked (a .line .now) (l .w .i + 1) (sym (c .before .before .before .before .enum-told .given .1) ∙ c .before .before .before .before .before .before .find-link .ensures .0))) (c .before .before .push .ensures .0)
+loop-less-3 : (t : ℕ) → lts.Need-loop-less-3 (told t) (spans-in-at t) spans-in.Post Inv-loop μ-loop
+loop-less-3 t c =
+    let a = c .before .before .before .before .before .before .before .before .before .before .before .before .before .before .before .before .before .args in
+    let l = c .before .before .before .before .before .before .before .before .before .before .before .before .before .before .loop in
+    advanced (a .bold) (a .italic) (a .line .now) (a .out .now) (a .at) (l .w) (l .out) (l .inv .0) (c .before .before .before .before .before .before .before .before .before .before .before .before .if1 .taken)
+    (made-as (open-none (a .line .now) (l .w) (l .inv .0 .text) (c .before .before .before .before .before .before .before .before .if3 .left) (unlinked (a .line .now) (l .w .i + 1) (sym (c .before .before .before .before .enum-told .given .1) ∙ c .before .before .before .before .before .before .find-link .ensures .0))) (c .before .before .push .ensures .0)
     (push-made (a .bold) (a .italic) (l .w) (l .out) (l .inv .0 .text) _ _ 0 1 refl (l .inv .0 .len) (c .before .before .push .ensures .1))) .1
 
-loop-again-2 : (t : ℕ) → lts.Need-loop-again-2 (told t) (spans-in-at t) spans-in.Post Inv-loop μ-loop
-loop-again-2 t c =
-    let a = c .before .before .before .before .before .before .before .before .before .before .before .before .before .before .before .args in
-    let l = c .before .before .before .before .before .before .before .before .before .before .before .before .loop in (
-      advanced (a .bold) (a .italic) (a .line .now) (a .out .now) (a .at) (l .w) (l .out) (l .inv .0) (c .before .before .before .before .before .before .before .before .before .before .if1 .taken)
-          (made-as (open-none (a .line .now) (l .w) (l .inv .0 .text) (c .before .before .before .before .before .before .before .before .if2 .left) (unlinked (a .line .now) (l .w .i + 1) (sym (c .before .before .before .before .enum-told .given .1) ∙ c .before .before .before .before .before .before .find-link .ensures .0))) (c .before .before .push .ensures .0)
+loop-again-3 : (t : ℕ) → lts.Need-loop-again-3 (told t) (spans-in-at t) spans-in.Post Inv-loop μ-loop
+loop-again-3 t c =
+    let a = c .before .before .before .before .before .before .before .before .before .before .before .before .before .before .before .before .before .args in
+    let l = c .before .before .before .before .before .before .before .before .before .before .before .before .before .before .loop in (
+      advanced (a .bold) (a .italic) (a .line .now) (a .out .now) (a .at) (l .w) (l .out) (l .inv .0) (c .before .before .before .before .before .before .before .before .before .before .before .before .if1 .taken)
+          (made-as (open-none (a .line .now) (l .w) (l .inv .0 .text) (c .before .before .before .before .before .before .before .before .if3 .left) (unlinked (a .line .now) (l .w .i + 1) (sym (c .before .before .before .before .enum-told .given .1) ∙ c .before .before .before .before .before .before .find-link .ensures .0))) (c .before .before .push .ensures .0)
           (push-made (a .bold) (a .italic) (l .w) (l .out) (l .inv .0 .text) _ _ 0 1 refl (l .inv .0 .len) (c .before .before .push .ensures .1))) .0,
       c .before .before .before .before .before .before .find-link .ensures .1,
     )
@@ -112,75 +146,75 @@ either-requires-2 t c κs = search needs
 
 sub-spans-in : (t : ℕ) → lts.Need-sub-spans-in (told t) (spans-in-at t) spans-in.Post Inv-loop μ-loop
 sub-spans-in t c =
-    let a = c .before .before .before .before .before .before .before .before .before .before .before .before .before .before .args in
-    let l = c .before .before .before .before .before .before .before .before .before .before .before .loop in
+    let a = c .before .before .before .before .before .before .before .before .before .before .before .before .before .before .before .before .args in
+    let l = c .before .before .before .before .before .before .before .before .before .before .before .before .before .loop in
     let k = link-found (a .line .now) (l .w .i + 1) _ _ (sym (c .before .before .before .close .given .1) ∙ c .before .before .before .before .before .find-link .ensures .0) in
     omega (arith, k .close-is, k .before, k .inside)
 
 part-spans-in-start : (t : ℕ) → lts.Need-part-spans-in-start (told t) (spans-in-at t) spans-in.Post Inv-loop μ-loop
 part-spans-in-start t c =
-    let a = c .before .before .before .before .before .before .before .before .before .before .before .before .before .before .args in
-    let l = c .before .before .before .before .before .before .before .before .before .before .before .loop in
+    let a = c .before .before .before .before .before .before .before .before .before .before .before .before .before .before .before .before .args in
+    let l = c .before .before .before .before .before .before .before .before .before .before .before .before .before .loop in
     let k = link-found (a .line .now) (l .w .i + 1) _ _ (sym (c .before .before .before .close .given .1) ∙ c .before .before .before .before .before .find-link .ensures .0) in
     omega (arith, k .close-is, k .before, k .inside)
 
 part-spans-in-end : (t : ℕ) → lts.Need-part-spans-in-end (told t) (spans-in-at t) spans-in.Post Inv-loop μ-loop
 part-spans-in-end t c =
-    let a = c .before .before .before .before .before .before .before .before .before .before .before .before .before .before .args in
-    let l = c .before .before .before .before .before .before .before .before .before .before .before .loop in
+    let a = c .before .before .before .before .before .before .before .before .before .before .before .before .before .before .before .before .args in
+    let l = c .before .before .before .before .before .before .before .before .before .before .before .before .before .loop in
     let k = link-found (a .line .now) (l .w .i + 1) _ _ (sym (c .before .before .before .close .given .1) ∙ c .before .before .before .before .before .find-link .ensures .0) in
     omega (arith, k .close-is, k .before, k .inside)
 
 text-end-requires : (t : ℕ) → lts.Need-text-end-requires (told t) (spans-in-at t) spans-in.Post Inv-loop μ-loop
 text-end-requires t c κs =
-    let a = c .before .before .before .before .before .before .before .before .before .before .before .before .before .before .before .before .args in
-    let l = c .before .before .before .before .before .before .before .before .before .before .before .before .before .loop in
-    omega (arith, bounds (a .bold) (a .italic) (a .line .now) (a .out .now) (a .at) (l .w) (l .out) (l .inv .0) (c .before .before .before .before .before .before .before .before .before .before .before .before .before .before .before .before .pre .1))
+    let a = c .before .before .before .before .before .before .before .before .before .before .before .before .before .before .before .before .before .before .args in
+    let l = c .before .before .before .before .before .before .before .before .before .before .before .before .before .before .before .loop in
+    omega (arith, bounds (a .bold) (a .italic) (a .line .now) (a .out .now) (a .at) (l .w) (l .out) (l .inv .0) (c .before .before .before .before .before .before .before .before .before .before .before .before .before .before .before .before .before .before .pre .1))
 
 spans-in-requires : (t : ℕ) → lts.Need-spans-in-requires (told t) (spans-in-at t) spans-in.Post Inv-loop μ-loop
 spans-in-requires t c κs =
-    let a = c .before .before .before .before .before .before .before .before .before .before .before .before .before .before .before .before .before .args in
-    let l = c .before .before .before .before .before .before .before .before .before .before .before .before .before .before .loop in
+    let a = c .before .before .before .before .before .before .before .before .before .before .before .before .before .before .before .before .before .before .before .args in
+    let l = c .before .before .before .before .before .before .before .before .before .before .before .before .before .before .before .before .loop in
     let k = link-found (a .line .now) (l .w .i + 1) _ _ (sym (c .before .before .before .before .before .before .close .given .1) ∙ c .before .before .before .before .before .before .before .before .find-link .ensures .0) in
     let from = l .w .i + 1 in
     let x = c .before .before .before .before .before .before .close .given .0 .0 in
     let long = length-take (x - from) (drop from (a .line .now)) in (
-      omega (arith, long, length-drop from (a .line .now), c .before .before .before .before .before .before .before .before .before .before .before .before .before .before .before .before .before .pre .0, k .close-is, k .before, k .inside),
-      omega (arith, long, c .text-end .ensures, pend-small (l .w .len), k .close-is, k .before, k .inside, bounds (a .bold) (a .italic) (a .line .now) (a .out .now) (a .at) (l .w) (l .out) (l .inv .0) (c .before .before .before .before .before .before .before .before .before .before .before .before .before .before .before .before .before .pre .1)),
+      omega (arith, long, length-drop from (a .line .now), c .before .before .before .before .before .before .before .before .before .before .before .before .before .before .before .before .before .before .before .pre .0, k .close-is, k .before, k .inside),
+      omega (arith, long, c .text-end .ensures, pend-small (l .w .len), k .close-is, k .before, k .inside, bounds (a .bold) (a .italic) (a .line .now) (a .out .now) (a .at) (l .w) (l .out) (l .inv .0) (c .before .before .before .before .before .before .before .before .before .before .before .before .before .before .before .before .before .before .before .pre .1)),
     )
 
 add-join-label : (t : ℕ) → lts.Need-add-join-label (told t) (spans-in-at t) spans-in.Post Inv-loop μ-loop
 add-join-label t c =
-    let a = c .before .before .before .before .before .before .before .before .before .before .before .before .before .before .before .before .before .before .before .before .args in
-    let l = c .before .before .before .before .before .before .before .before .before .before .before .before .before .before .before .before .before .loop in
+    let a = c .before .before .before .before .before .before .before .before .before .before .before .before .before .before .before .before .before .before .before .before .before .before .args in
+    let l = c .before .before .before .before .before .before .before .before .before .before .before .before .before .before .before .before .before .before .before .loop in
     let k = link-found (a .line .now) (l .w .i + 1) _ _ (sym (c .before .before .before .before .before .before .before .before .before .close .given .1) ∙ c .before .before .before .before .before .before .before .before .before .before .before .find-link .ensures .0) in
-    omega (arith, k .inside, c .before .before .before .before .before .before .before .before .before .before .before .before .before .before .before .before .before .before .before .before .pre .1)
+    omega (arith, k .inside, c .before .before .before .before .before .before .before .before .before .before .before .before .before .before .before .before .before .before .before .before .before .before .pre .1)
 
 join-label-requires : (t : ℕ) → lts.Need-join-label-requires (told t) (spans-in-at t) spans-in.Post Inv-loop μ-loop
 join-label-requires t c κs =
-    let a = c .before .before .before .before .before .before .before .before .before .before .before .before .before .before .before .before .before .before .before .before .before .args in
-    let l = c .before .before .before .before .before .before .before .before .before .before .before .before .before .before .before .before .before .before .loop in
+    let a = c .before .before .before .before .before .before .before .before .before .before .before .before .before .before .before .before .before .before .before .before .before .before .before .args in
+    let l = c .before .before .before .before .before .before .before .before .before .before .before .before .before .before .before .before .before .before .before .before .loop in
     let k = link-found (a .line .now) (l .w .i + 1) _ _ (sym (c .before .before .before .before .before .before .before .before .before .before .close .given .1) ∙ c .before .before .before .before .before .before .before .before .before .before .before .before .find-link .ensures .0) in
     let from = l .w .i + 1 in
     let x = c .before .before .before .before .before .before .before .before .before .before .close .given .0 .0 in
-    omega (arith, bounds (a .bold) (a .italic) (a .line .now) (a .out .now) (a .at) (l .w) (l .out) (l .inv .0) (c .before .before .before .before .before .before .before .before .before .before .before .before .before .before .before .before .before .before .before .before .before .pre .1), c .before .before .before .before .before .before .before .before .before .before .before .before .before .before .before .before .before .before .before .before .before .pre .1, c .before .before .before .spans-in .ensures .1 .0, label-few (take (x - from) (drop from (a .line .now))), length-take (x - from) (drop from (a .line .now)), length-drop from (a .line .now))
+    omega (arith, bounds (a .bold) (a .italic) (a .line .now) (a .out .now) (a .at) (l .w) (l .out) (l .inv .0) (c .before .before .before .before .before .before .before .before .before .before .before .before .before .before .before .before .before .before .before .before .before .before .before .pre .1), c .before .before .before .before .before .before .before .before .before .before .before .before .before .before .before .before .before .before .before .before .before .before .before .pre .1, c .before .before .before .spans-in .ensures .1 .0, label-few (take (x - from) (drop from (a .line .now))), length-take (x - from) (drop from (a .line .now)), length-drop from (a .line .now))
 
-loop-less-3 : (t : ℕ) → lts.Need-loop-less-3 (told t) (spans-in-at t) spans-in.Post Inv-loop μ-loop
-loop-less-3 t c =
-    let a = c .before .before .before .before .before .before .before .before .before .before .before .before .before .before .before .before .before .before .before .before .before .before .before .before .args in
-    let l = c .before .before .before .before .before .before .before .before .before .before .before .before .before .before .before .before .before .before .before .before .before .loop in
+loop-less-4 : (t : ℕ) → lts.Need-loop-less-4 (told t) (spans-in-at t) spans-in.Post Inv-loop μ-loop
+loop-less-4 t c =
+    let a = c .before .before .before .before .before .before .before .before .before .before .before .before .before .before .before .before .before .before .before .before .before .before .before .before .before .before .args in
+    let l = c .before .before .before .before .before .before .before .before .before .before .before .before .before .before .before .before .before .before .before .before .before .before .before .loop in
     let k = link-found (a .line .now) (l .w .i + 1) _ _ (sym (c .before .before .before .before .before .before .before .before .before .before .before .before .before .close .given .1) ∙ c .before .before .before .before .before .before .before .before .before .before .before .before .before .before .before .find-link .ensures .0) in
-    advanced (a .bold) (a .italic) (a .line .now) (a .out .now) (a .at) (l .w) (l .out) (l .inv .0) (c .before .before .before .before .before .before .before .before .before .before .before .before .before .before .before .before .before .before .before .if1 .taken)
-    (label-made (a .bold) (a .italic) (l .w) (l .out) (l .inv .0 .text) (l .inv .0 .len) (a .line .now) _ _ (c .before .before .before .before .before .before .before .before .before .before .before .before .before .before .before .before .before .if2 .left) k _ _ _ (c .before .before .before .before .before .before .before .before .before .before .before .either .ensures) (c .before .before .before .before .before .before .before .before .before .before .either2 .ensures) (c .before .before .before .before .before .before .before .text-end .ensures)
+    advanced (a .bold) (a .italic) (a .line .now) (a .out .now) (a .at) (l .w) (l .out) (l .inv .0) (c .before .before .before .before .before .before .before .before .before .before .before .before .before .before .before .before .before .before .before .before .before .if1 .taken)
+    (label-made (a .bold) (a .italic) (l .w) (l .out) (l .inv .0 .text) (l .inv .0 .len) (a .line .now) _ _ (c .before .before .before .before .before .before .before .before .before .before .before .before .before .before .before .before .before .if3 .left) k _ _ _ (c .before .before .before .before .before .before .before .before .before .before .before .either .ensures) (c .before .before .before .before .before .before .before .before .before .before .either2 .ensures) (c .before .before .before .before .before .before .before .text-end .ensures)
     (c .before .before .before .before .before .before .spans-in .result) _ (c .before .before .before .before .before .before .spans-in .ensures .0) (c .before .before .before .before .before .before .spans-in .ensures .1 .0) (c .before .before .before .before .before .before .spans-in .ensures .1 .1) _ _ (c .before .before .join-label .ensures .0) (c .before .before .join-label .ensures .1)) .1
 
-loop-again-3 : (t : ℕ) → lts.Need-loop-again-3 (told t) (spans-in-at t) spans-in.Post Inv-loop μ-loop
-loop-again-3 t c =
-    let a = c .before .before .before .before .before .before .before .before .before .before .before .before .before .before .before .before .before .before .before .before .before .before .before .before .args in
-    let l = c .before .before .before .before .before .before .before .before .before .before .before .before .before .before .before .before .before .before .before .before .before .loop in
+loop-again-4 : (t : ℕ) → lts.Need-loop-again-4 (told t) (spans-in-at t) spans-in.Post Inv-loop μ-loop
+loop-again-4 t c =
+    let a = c .before .before .before .before .before .before .before .before .before .before .before .before .before .before .before .before .before .before .before .before .before .before .before .before .before .before .args in
+    let l = c .before .before .before .before .before .before .before .before .before .before .before .before .before .before .before .before .before .before .before .before .before .before .before .loop in
     let k = link-found (a .line .now) (l .w .i + 1) _ _ (sym (c .before .before .before .before .before .before .before .before .before .before .before .before .before .close .given .1) ∙ c .before .before .before .before .before .before .before .before .before .before .before .before .before .before .before .find-link .ensures .0) in (
-      advanced (a .bold) (a .italic) (a .line .now) (a .out .now) (a .at) (l .w) (l .out) (l .inv .0) (c .before .before .before .before .before .before .before .before .before .before .before .before .before .before .before .before .before .before .before .if1 .taken)
-          (label-made (a .bold) (a .italic) (l .w) (l .out) (l .inv .0 .text) (l .inv .0 .len) (a .line .now) _ _ (c .before .before .before .before .before .before .before .before .before .before .before .before .before .before .before .before .before .if2 .left) k _ _ _ (c .before .before .before .before .before .before .before .before .before .before .before .either .ensures) (c .before .before .before .before .before .before .before .before .before .before .either2 .ensures) (c .before .before .before .before .before .before .before .text-end .ensures)
+      advanced (a .bold) (a .italic) (a .line .now) (a .out .now) (a .at) (l .w) (l .out) (l .inv .0) (c .before .before .before .before .before .before .before .before .before .before .before .before .before .before .before .before .before .before .before .before .before .if1 .taken)
+          (label-made (a .bold) (a .italic) (l .w) (l .out) (l .inv .0 .text) (l .inv .0 .len) (a .line .now) _ _ (c .before .before .before .before .before .before .before .before .before .before .before .before .before .before .before .before .before .if3 .left) k _ _ _ (c .before .before .before .before .before .before .before .before .before .before .before .either .ensures) (c .before .before .before .before .before .before .before .before .before .before .either2 .ensures) (c .before .before .before .before .before .before .before .text-end .ensures)
           (c .before .before .before .before .before .before .spans-in .result) _ (c .before .before .before .before .before .before .spans-in .ensures .0) (c .before .before .before .before .before .before .spans-in .ensures .1 .0) (c .before .before .before .before .before .before .spans-in .ensures .1 .1) _ _ (c .before .before .join-label .ensures .0) (c .before .before .join-label .ensures .1)) .0,
       c .before .before .before .before .before .before .before .before .before .before .before .before .before .before .before .find-link .ensures .1,
     )
@@ -206,4 +240,4 @@ returns t c =
 pub +spans-in-spec : {M : Type 1} → statement M
 +spans-in-spec =
     close μ-spans-in (λ t. lts.spec (told t) (spans-in-at t) spans-in.Post Inv-loop μ-loop
-    (loop-holds t) (shared-slice-read-if2 t) (turn-requires t) (loop-less t) (loop-again t) (add-from t) (find-link-requires t) (enum-known-close t) (enum-told t) (push-requires t) (loop-less-2 t) (loop-again-2 t) (either-requires t) (either-requires-2 t) (sub-spans-in t) (part-spans-in-start t) (part-spans-in-end t) (text-end-requires t) (spans-in-requires t) (add-join-label t) (join-label-requires t) (loop-less-3 t) (loop-again-3 t) (flush-requires t) (same-length t) (returns t))
+    (loop-holds t) (shared-slice-read-c t) (is-plain-requires t) (add-plain-end t) (plain-end-requires t) (push-all-requires t) (loop-less t) (loop-again t) (turn-requires t) (loop-less-2 t) (loop-again-2 t) (add-from t) (find-link-requires t) (enum-known-close t) (enum-told t) (push-requires t) (loop-less-3 t) (loop-again-3 t) (either-requires t) (either-requires-2 t) (sub-spans-in t) (part-spans-in-start t) (part-spans-in-end t) (text-end-requires t) (spans-in-requires t) (add-join-label t) (join-label-requires t) (loop-less-4 t) (loop-again-4 t) (flush-requires t) (same-length t) (returns t))
