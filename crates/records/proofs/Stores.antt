@@ -1,12 +1,16 @@
 -- Runs of stores: one after another, one whose head is stored into the gap before its text, and those past the end.
 -- Assumes nothing.
-use Prim.Native.Nat.{ℕ, suc, _+_, _≤_, _<_}
+use Prim.Native.Nat.{ℕ, suc, _+_, _-_, _≤_, _<_, min}
 use native.Mathlib.Nat.{add-zero, zero-add}
 use native.Mathlib.Numerals.{add-one}
 use native.Mathlib.Omega.{arith}
 use mathlib.Core.Path.{_≡_, refl, sym, ap, ap₂, _∙_}
+use mathlib.Core.Logic.{⊎-elim}
 use mathlib.Core.List.{List, [], _∷_, _++_, append-nil}
-use lib.ListN.{length, drop, getD, set, replicate}
+use lib.ListN.{length, drop, getD, set, replicate, drop-of-length-le}
+use lib.Dec.{leb}
+use borrow.Author.Tests.{leb-true, leb-false}
+use Rattle.text.proofs.Tests.{decide}
 use lib.Seq.{sets, set-comm, set-out, drop-cons, drop-length, sets-eq}
 
 -- two runs, the second behind the first, are one
@@ -53,3 +57,11 @@ cleared out₀ i e p =
     ∙ ap (λ (k : ℕ). replicate k 0 ++ drop k out₀) e
     ∙ ap (λ (l : List ℕ). replicate (length out₀) 0 ++ l) (drop-length out₀)
     ∙ append-nil (replicate (length out₀) 0)
+
+-- nothing is left to store, or no room
+pub sets-rest : (l s : List ℕ) (a i : ℕ) → min (length s) (length l - a) ≤ i → sets l (a + i) (drop i s) ≡ l
+sets-rest l s a i h =
+    ⊎-elim
+    (λ e. ap (sets l (a + i)) (drop-of-length-le s (leb-true (length s) i e)))
+    (λ e. sets-out l (a + i) (drop i s) (omega (arith, leb-false (length s) i e)))
+    (decide (leb (length s) i))

@@ -2,7 +2,7 @@
 // rest is not, so a writer needs no case for a full buffer and sees at its end whether all of it fitted.
 ghost use mathlib.Core.Path.{_≡_};
 ghost use mathlib.Core.List.{[], _∷_};
-ghost use Prim.Native.Nat.{_≤_};
+ghost use Prim.Native.Nat.{_≤_, min};
 ghost use lib.ListN.{length, replicate};
 ghost use lib.Seq.{sets};
 ghost use Rattle.records.specs.Format.{le16, le32, bit, span-map};
@@ -16,19 +16,22 @@ pub fn put(out: &mut [u8], at: usize, b: u8)
     }
 }
 
-// The bytes of s.
+fn least(a: usize, b: usize) -> usize
+    ensures { λ r. ⌜ r ≡ min a b ⌝ }
+{
+    if a < b { a } else { b }
+}
+
+// The bytes of s. One test a byte, so that the compiler can take many bytes at once.
 pub fn put_bytes(out: &mut [u8], at: usize, s: &[u8])
     ensures { λ _. ⌜ now (out .exit) ≡ sets (now (out .entry)) at (now (s .entry)) ⌝ }
 {
     if out.len() <= at {
         return;
     }
-    let room = out.len() - at;
+    let n = least(s.len(), out.len() - at);
     let mut i: usize = 0;
-    while i < s.len() {
-        if room <= i {
-            return;
-        }
+    while i < n {
         out[at + i] = s[i];
         i += 1;
     }
