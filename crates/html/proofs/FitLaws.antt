@@ -49,7 +49,7 @@ module _ (m n : ℕ) (c : State) (f : Fit m n c) where
   like j d e h = record { few = rw e (f .few); small = λ k. rw e (omega (arith, f .small k)); short = omega (arith, f .short) }
 
 -- ---- items
-size-indent : (k : ℕ) → size (repeat k "  ") ≡ 2 * k
+pub size-indent : (k : ℕ) → size (repeat k "  ") ≡ 2 * k
 unfolding size
 size-indent zero = refl
 size-indent (suc k) = omega (arith, size-indent k, ap length (utf8-1 32 (omega arith)))

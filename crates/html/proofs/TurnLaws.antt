@@ -204,7 +204,7 @@ loop-drop zero s c = refl
 loop-drop (suc n) [] c = refl
 loop-drop (suc n) (x ∷ s) c = loop-drop n s c
 
-abbrev Reads : Turn → Type 0
+abbrev pub Reads : Turn → Type 0
 Reads refused = Unit
 Reads (read n d) = 1 ≤ n
 
@@ -212,7 +212,7 @@ tag-reads : (n : ℕ) (o : Option State) → Reads (tag-read (n + 1) o)
 tag-reads n none = tt
 tag-reads n (some d) = omega arith
 
-turn-reads : (s : List ℕ) (c : State) → 0 < length s → Reads (turn s c)
+pub turn-reads : (s : List ℕ) (c : State) → 0 < length s → Reads (turn s c)
 unfolding turn markup comment a-tag
 turn-reads s c h = go (find "<" s)
   where

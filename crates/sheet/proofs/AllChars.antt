@@ -26,8 +26,8 @@ all-weaker p q h [] e = refl
 all-weaker p q h (a ∷ s) e = let g = and-true (p a) (all p s) e in rw (h a (g .0)) (all-weaker p q h s (g .1))
 
 -- ---- decimal numbers
-digit-low : (n : ℕ) → n < 10 → is-digit (48 + n) ≡ true
-digit-low n h = within-is 48 57 (48 + n) (omega arith) (omega arith)
+digit-of : (n : ℕ) → n < 10 → is-digit (48 + n) ≡ true
+digit-of n h = within-is 48 57 (48 + n) (omega arith) (omega arith)
 
 pub digits-all : (k n : ℕ) → all is-digit (digits k n) ≡ true
 unfolding digits
@@ -36,8 +36,8 @@ digits-all (suc k) n = go (ltb n 10) refl (digits-all k (n / 10))
   where
     go : (b : Bool) → ltb n 10 ≡ b → all is-digit (digits k (n / 10)) ≡ true
         → all is-digit (cond b ((48 + n) ∷ []) (digits k (n / 10) ++ ((48 + n % 10) ∷ []))) ≡ true
-    go true e h = rw (digit-low n (ltb-true n 10 e))
-    go false e h = all-append is-digit (digits k (n / 10)) ((48 + n % 10) ∷ []) h (rw (digit-low (n % 10) (omega arith)))
+    go true e h = rw (digit-of n (ltb-true n 10 e))
+    go false e h = all-append is-digit (digits k (n / 10)) ((48 + n % 10) ∷ []) h (rw (digit-of (n % 10) (omega arith)))
 
 pub decimal-all : (n : ℕ) → all is-digit (decimal n) ≡ true
 decimal-all n = digits-all (suc n) n

@@ -7,11 +7,10 @@ use mathlib.Core.List.{List, [], _∷_}
 use lib.Dec.{eqb}
 use Rattle.text.specs.Words.{is-empty}
 use Rattle.text.specs.Chars.{is-space, is-control}
-use Rattle.text.proofs.Tests.{and-true}
+use Rattle.text.proofs.Tests.{and-true, false-true}
 use Rattle.html.specs.State.{special}
 use Rattle.sheet.specs.Tree.{Kind, plain, strong, em, both, code, Run, run}
 use Rattle.sheet.specs.Grammar.{shown, none-of, singles, first-is, last-is, no-blank, edges, fits, touch, apart, first-letter, last-no-blank, neat}
-use Rattle.sheet.proofs.Facts.{false-true}
 
 -- ---- a character that stands for itself
 pub record Shown (c : ℕ) : Type 0 where

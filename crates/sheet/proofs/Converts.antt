@@ -1,18 +1,19 @@
 -- The converter's half of demand 3: it makes of a sheet's page its written form, limits included.
 -- Assumes nothing.
-use Prim.Native.Nat.{ℕ, _+_, _-_, _*_, _≤_, _<_}
+use Prim.Native.Nat.{ℕ, _+_, _*_, _≤_, _<_}
 use native.Mathlib.Omega.{arith}
-use mathlib.Core.Path.{_≡_, refl, sym, _∙_, ap, subst}
+use mathlib.Core.Path.{_≡_, sym, _∙_, ap, subst}
 use mathlib.Core.Logic.{_⊎_}
 use mathlib.Core.Option.{Option, some}
-use mathlib.Core.List.{List, [], _∷_, reverse, reverseAux}
-use borrow.Author.Tests.{le-leb, le-ltb}
+use mathlib.Core.List.{List, [], _∷_, reverse}
+use borrow.Author.Tests.{le-ltb}
 use lib.ListN.{length, take}
 use lib.Seq.{take-all}
 use Rattle.text.specs.Words.{_>>=_}
-use Rattle.text.specs.Utf8.{utf8, size, encode, decode}
-use Rattle.text.specs.Cut.{cut}
+use Rattle.text.specs.Utf8.{size, encode, decode}
 use Rattle.text.specs.Outcome.{wrote}
+use Rattle.text.proofs.CutLaws.{cut-whole}
+use Rattle.text.proofs.Laws.{size-aux}
 use Rattle.html.specs.State.{State, new}
 use Rattle.html.specs.Page.{loop, finish, html-to-markdown}
 use Rattle.html.specs.Calls.{converted, with-buffers, html-to-markdown-call}
@@ -25,19 +26,9 @@ use Rattle.sheet.proofs.PageOut.{gap, wr, wr-written, page-out}
 use Rattle.sheet.proofs.Trimmed.{trimmed}
 use Rattle.sheet.proofs.PageSize.{page-size}
 
-pub cut-all : (n : ℕ) (s : List ℕ) → size s ≤ n → cut n s ≡ s
-unfolding cut size
-cut-all n [] h = refl
-cut-all n (c ∷ s) h = rw (le-leb (length (utf8 c)) n (omega arith)) (ap (λ (t : List ℕ). c ∷ t) (cut-all (n - length (utf8 c)) s (omega arith)))
-
-size-turned : (s t : List ℕ) → size (reverseAux s t) ≡ size s + size t
-unfolding size
-size-turned [] t = omega arith
-size-turned (a ∷ s) t = omega (arith, size-turned s (a ∷ t))
-
 pub size-reverse : (s : List ℕ) → size (reverse s) ≡ size s
 unfolding size
-size-reverse s = omega (arith, size-turned s [])
+size-reverse s = omega (arith, size-aux s [])
 
 -- the output that the loop ends with, trimmed and cut to 8,000 characters
 finished : {s : List ℕ} {bs : List Block} → IsPage s bs → (c : State) → (c .out ≡ gap (wr bs [])) ⊎ (c .out ≡ 10 ∷ wr bs []) → length (written bs) ≤ 8000 → finish c ≡ written bs
@@ -52,7 +43,7 @@ pub sheet-converts : {s : List ℕ} {t : List Block} → IsPage s t → size (wr
 unfolding html-to-markdown
 sheet-converts {s} {t} p h k =
     let e = page-out p (low-page p h) in
-    ap (λ (s : List ℕ). loop 0 s new >>= λ (c : State). some (finish c)) (cut-all 1048576 s (omega (arith, page-size p)))
+    ap (λ (s : List ℕ). loop 0 s new >>= λ (c : State). some (finish c)) (cut-whole 1048576 s (omega (arith, page-size p)))
     ∙ ap (λ (o : Option State). o >>= λ (c : State). some (finish c)) (e .is)
     ∙ ap some (finished p (e .state) (e .trails) k)
 
@@ -61,4 +52,4 @@ pub sheet-call : {s : List ℕ} {t : List Block} (page : List ℕ) (work result 
     → 2 * size s + 16384 ≤ work → 32000 ≤ result → html-to-markdown-call page work result ≡ wrote (encode (written t))
 unfolding html-to-markdown-call with-buffers converted
 sheet-call {s} {t} page work result d p h k a b =
-    rw (d, cut-all 1048576 s (omega (arith, page-size p)), le-ltb work (2 * size s + 16384) a, le-ltb result 32000 b, sheet-converts p h k)
+    rw (d, cut-whole 1048576 s (omega (arith, page-size p)), le-ltb work (2 * size s + 16384) a, le-ltb result 32000 b, sheet-converts p h k)

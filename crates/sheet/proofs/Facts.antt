@@ -9,18 +9,9 @@ use borrow.Author.Tests.{ne-eqb, eqb-true, lt-leb}
 use lib.Dec.{eqb}
 use Rattle.text.specs.Words.{matches}
 use Rattle.text.specs.Chars.{within, is-space, is-digit, is-letter}
-use Rattle.text.proofs.Tests.{or-elim, within-true}
+use Rattle.text.proofs.Tests.{or-elim, within-true, or-neither, within-above}
+use Rattle.text.proofs.TrimLaws.{space-ascii}
 use Rattle.html.specs.State.{special}
-
-pub true-false : {A : Type 0} → true ≡ false → A
-true-false e = let z : _≡_ {A = ℕ} 0 1 = cc in absurd (omega arith)
-
-pub false-true : {A : Type 0} → false ≡ true → A
-false-true e = true-false (sym e)
-
-pub neither : (a b : Bool) → (a || b) ≡ false → (a ≡ false) × (b ≡ false)
-neither false b e = (refl, e)
-neither true b e = true-false e
 
 -- a character that is not special is none of the five
 pub record Ordinary (x : ℕ) : Type 0 where
@@ -33,11 +24,11 @@ pub record Ordinary (x : ℕ) : Type 0 where
 pub ordinary : (x : ℕ) → special x ≡ false → Ordinary x
 unfolding special
 ordinary x e =
-    let a = neither (eqb x 92) _ e in
-    let b = neither (eqb x 42) _ (a .1) in
-    let c = neither (eqb x 96) _ (b .1) in
-    let d = neither (eqb x 91) _ (c .1) in
-    record { no-backslash = a .0; no-star = b .0; no-tick = c .0; no-bracket = d .0; no-bang = neither (eqb x 33) _ (d .1) .0 }
+    let a = or-neither (eqb x 92) _ e in
+    let b = or-neither (eqb x 42) _ (a .1) in
+    let c = or-neither (eqb x 96) _ (b .1) in
+    let d = or-neither (eqb x 91) _ (c .1) in
+    record { no-backslash = a .0; no-star = b .0; no-tick = c .0; no-bracket = d .0; no-bang = or-neither (eqb x 33) _ (d .1) .0 }
 
 -- an ASCII letter
 pub record Letter (x : ℕ) : Type 0 where
@@ -51,24 +42,9 @@ a-letter x =
     (λ e. let f = within-true 65 90 x e in record { low = f .0; high = omega arith; gap = inl (f .1) })
     (λ e. let f = within-true 97 122 x e in record { low = omega arith; high = f .1; gap = inr (f .0) })
 
--- what stands between the spaces 32 and 133 is none
-pub visible : (x : ℕ) → 33 ≤ x → x ≤ 132 → is-space x ≡ false
-unfolding is-space
-visible x lo hi =
-    simp (
-      lt-leb x 13 (omega arith),
-      lt-leb 8192 x (omega arith),
-      ne-eqb x 32 (λ e. omega arith),
-      ne-eqb x 133 (λ e. omega arith),
-      ne-eqb x 160 (λ e. omega arith),
-      ne-eqb x 5760 (λ e. omega arith),
-      ne-eqb x 8232 (λ e. omega arith),
-      ne-eqb x 8233 (λ e. omega arith),
-      ne-eqb x 8239 (λ e. omega arith),
-      ne-eqb x 8287 (λ e. omega arith),
-      ne-eqb x 12288 (λ e. omega arith),
-      and-false,
-    )
+-- no ASCII character after 32 is a space
+pub visible : (x : ℕ) → 33 ≤ x → x < 0x80 → is-space x ≡ false
+visible x lo hi = space-ascii x hi ∙ simp (within-above 9 13 x (omega arith) (omega arith), ne-eqb x 32 (λ e. omega arith))
 
 module _ (x : ℕ) (h : Letter x) where
   pub letter-is-not : (b : ℕ) → (b < 65) ⊎ ((90 < b) × (b < 97)) ⊎ (122 < b) → eqb x b ≡ false

@@ -12,12 +12,13 @@ use lib.Dec.{eqb}
 use Rattle.text.specs.Words.{matches, is-empty, all, starts, drop-while, trim-end-matches}
 use Rattle.text.specs.Chars.{is-space, is-digit, is-letter}
 use Rattle.text.specs.Trim.{trim}
+use Rattle.text.proofs.Tests.{false-true}
 use Rattle.markdown.specs.Blocks.{is-rule, marker-at, list-marker}
 use Rattle.sheet.specs.Tree.{Kind, plain, strong, em, both, code, Run, run}
 use Rattle.sheet.specs.Grammar as G
 use Rattle.sheet.specs.Grammar.{Many, stop, more, IsRun, is-run, Line, first-is, first-letter}
 use Rattle.sheet.specs.Written.{escaped, sign, written-run, written-runs}
-use Rattle.sheet.proofs.Facts.{false-true, Letter, a-letter, letter-is-not, letter-space, letter-special, letter-digit}
+use Rattle.sheet.proofs.Facts.{Letter, a-letter, letter-is-not, letter-space, letter-special, letter-digit}
 use Rattle.sheet.proofs.Conditions.{neat-of}
 use Rattle.sheet.proofs.LineEnd.{space-first, solid-drop, runs-ended}
 

@@ -8,14 +8,14 @@ use borrow.Author.Tests.{not-true}
 use lib.Dec.{eqb}
 use Rattle.text.specs.Words.{str, is, all, drop-while}
 use Rattle.text.specs.Chars.{is-space}
-use Rattle.text.proofs.Tests.{and-true}
+use Rattle.text.proofs.Tests.{and-true, false-true}
 use Rattle.html.specs.State.{line-start, special, block, newline}
 use Rattle.html.specs.Page.{loop}
 use Rattle.sheet.specs.Tree.{plain, strong, em, both, code, Run, run}
 use Rattle.sheet.specs.Grammar as G
 use Rattle.sheet.specs.Grammar.{NL, Many, stop, more, IsRun, is-run, Line, last-is, no-blank, last-no-blank}
 use Rattle.sheet.specs.Written.{escaped, written-run, written-runs}
-use Rattle.sheet.proofs.Facts.{false-true, inked}
+use Rattle.sheet.proofs.Facts.{inked}
 use Rattle.sheet.proofs.Conditions.{neat-of}
 use Rattle.sheet.proofs.Turns.{Low}
 use Rattle.sheet.proofs.Tags.{st}

@@ -9,13 +9,13 @@ use mathlib.Core.List.{List, [], _∷_, _++_, reverseAux, reverseAux-append, app
 use lib.Dec.{eqb}
 use Rattle.text.specs.Words.{str}
 use Rattle.text.specs.Chars.{is-space, is-letter}
-use Rattle.text.proofs.Tests.{and-true}
+use Rattle.text.proofs.Tests.{and-true, false-true}
 use Rattle.html.specs.State.{State, spaced, opens, ends-with-digit, escape, put, blank, next, put-all}
 use Rattle.html.specs.Page.{loop}
 use Rattle.sheet.specs.Tree.{Kind, plain, strong, em, both, code, Run, run}
 use Rattle.sheet.specs.Grammar.{Many, stop, more, Text, IsRun, is-run, first-is, last-is, no-blank, fits, touch, apart, first-letter, before, after}
 use Rattle.sheet.specs.Written.{escaped, written-run, written-runs}
-use Rattle.sheet.proofs.Facts.{false-true, Letter, a-letter, letter-is-not, letter-space, letter-special, letter-leading}
+use Rattle.sheet.proofs.Facts.{Letter, a-letter, letter-is-not, letter-space, letter-special, letter-leading}
 use Rattle.sheet.proofs.Conditions.{InTags, ends-of}
 use Rattle.sheet.proofs.Turns.{Low, low-front}
 use Rattle.sheet.proofs.Tags.{st}

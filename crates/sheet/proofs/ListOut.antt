@@ -16,11 +16,12 @@ use Rattle.text.specs.Decimal.{decimal}
 use Rattle.html.specs.State as S
 use Rattle.html.specs.State.{State, block, list-changed}
 use Rattle.html.specs.Page.{loop}
+use Rattle.html.proofs.TurnLaws.{loop-full}
 use Rattle.sheet.specs.Tree.{Mark, ul, ol, Items, Item, alone, with, items}
 use Rattle.sheet.specs.Grammar as G
 use Rattle.sheet.specs.Grammar.{NL, Many, stop, more, ThenNL, IsItem, is-alone, is-with, ListOf, IsList, opens, closes}
 use Rattle.sheet.specs.Written.{written-runs, Row, item, place, rows-from, lead, written-row, joined}
-use Rattle.sheet.proofs.Turns.{Low, low-front, low-tail, loop-stop}
+use Rattle.sheet.proofs.Turns.{Low, low-front, low-tail}
 use Rattle.sheet.proofs.Tags.{st, loop-ul, loop-ul/, loop-ol, loop-ol/, loop-li, loop-li/}
 use Rattle.sheet.proofs.TextOut.{begins, inline}
 use Rattle.sheet.proofs.RunOut.{Tail, tag, nl-tag}
@@ -173,7 +174,7 @@ past-list {s = s} {s₃ = s₃} {r = r} l p p' x b v w w' b₁ n e y (left f) = 
 
     go : Low (10 ∷ w) ⊎ (16000 ≤ size (10 ∷ w)) → Did s r l p p' x b w'
     go (inl h) = reached (10 ∷ w) (g .0) h (e ∙ f ∙ g .1 h ∙ loop-li/ (p' ∷ l) (10 ∷ w) (g .0) r h) (inr (ap (λ (v : List ℕ). 10 ∷ v) y))
-    go (inr k) = stopped (stopped-as y (record { state = st (p' ∷ l) (10 ∷ w) false; is = e ∙ f ∙ loop-stop s₃ (st (p' ∷ l) (10 ∷ w) false) k; out-is = refl; full = k }))
+    go (inr k) = stopped (stopped-as y (record { state = st (p' ∷ l) (10 ∷ w) false; is = e ∙ f ∙ loop-full s₃ (st (p' ∷ l) (10 ∷ w) false) k; out-is = refl; full = k }))
 
 module _ (d : ℕ) (L : List ℕ → Mark → Items → List ℕ → Type 0) (lists : ListsOut d L) where
   -- an item, from x on, where its output is low

@@ -11,11 +11,12 @@ use Rattle.text.specs.Words.{str, repeat, is-empty, drop-while, index}
 use Rattle.text.specs.Utf8.{size}
 use Rattle.html.specs.State.{State, new, push-str, line-start, block}
 use Rattle.html.specs.Page.{words, turn, loop}
+use Rattle.html.proofs.TurnLaws.{loop-full}
 use Rattle.sheet.specs.Tree.{Run, Mark, Items, Block, heading, para, list}
 use Rattle.sheet.specs.Grammar as G
 use Rattle.sheet.specs.Grammar.{NL, Many, stop, more, ThenNL, IsBlock, is-heading, is-para, IsPage}
 use Rattle.sheet.specs.Written.{written-runs, rows-from, rows, joined, written-block, written}
-use Rattle.sheet.proofs.Turns.{Low, low-tail, low-front, loop-turn, loop-stop}
+use Rattle.sheet.proofs.Turns.{Low, low-tail, low-front, loop-turn}
 use Rattle.sheet.proofs.Tags.{st, loop-p, loop-p/, loop-h, loop-h/}
 use Rattle.sheet.proofs.TextOut.{begins, inline, line-start-is}
 use Rattle.sheet.proofs.RunOut.{tag, nl-words, nl-loop}
@@ -171,7 +172,7 @@ nl-end o e G.nl = go (decide-low o)
   where
     go : Low o ⊎ (16000 ≤ size o) → loop 0 (10 ∷ []) (st [] o false) ≡ some (st [] o false)
     go (inl h) = last-turn o h ∙ ap some (nl-words [] o false ∙ quiet o e)
-    go (inr h) = loop-stop (10 ∷ []) (st [] o false) h
+    go (inr h) = loop-full (10 ∷ []) (st [] o false) h
 
 nl-next : {m r r' : List ℕ} (o : List ℕ) → inline o ≡ false → Low o → NL m r → r ≡ 60 ∷ r' → loop 0 m (st [] o false) ≡ loop 0 r (st [] o false)
 nl-next o e h G.no-nl z = refl

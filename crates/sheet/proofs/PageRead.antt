@@ -10,16 +10,16 @@ use borrow.Author.Tests.{ne-eqb, le-leb}
 use lib.ListN.{length, length-reverse}
 use Rattle.text.specs.Words.{str, repeat, is, is-empty, all, starts, take-while, drop-while, trim-end-matches}
 use Rattle.text.specs.Chars.{is-space, is-digit}
-use Rattle.text.specs.Utf8.{size, utf8}
 use Rattle.text.specs.Trim.{trim}
-use Rattle.text.proofs.Tests.{within-true, within-is, and-true}
+use Rattle.text.proofs.Tests.{within-true, within-is, and-true, false-true}
 use Rattle.records.specs.Blocks.{Block, Heading, Paragraph, Item}
 use Rattle.spans.specs.Spans.{spans}
 use Rattle.markdown.specs.Blocks.{Marked, marker-at, list-marker, Reader, reader, flush, heading, paragraph, read-text, read-line}
 use Rattle.markdown.proofs.RunLaws.{not-empty}
-use Rattle.sheet.proofs.Facts.{false-true, visible}
+use Rattle.sheet.proofs.Facts.{visible}
 use Rattle.sheet.proofs.LineEnd.{space-first, solid-drop}
 use Rattle.sheet.proofs.Fronts.{first-append, trim-start-is, trim-id, front-hash, front-bar, front-blank, front-empty, front-solid, front-marker, bulleted, no-rule, Good}
+use Rattle.html.proofs.FitLaws.{size-indent}
 
 -- ---- paragraphs
 pub read-para : (b : List Block) (w : List ℕ) → Good w → read-line (reader b []) w ≡ reader b w
@@ -107,14 +107,9 @@ unfolding drop-while is-space
 drop-blanks zero s e = solid-drop s e
 drop-blanks (suc d) s e = drop-blanks d s e
 
-size-blanks : (d : ℕ) → size (blanks d) ≡ 2 * d
-unfolding size utf8
-size-blanks zero = refl
-size-blanks (suc d) = omega (arith, size-blanks d)
-
 list-marker-line : (d : ℕ) (s : List ℕ) → space-first s ≡ false → list-marker (blanks d ++ s) ≡ marker-at (2 * d) s
 unfolding list-marker
-list-marker-line d s e = rw (take-blanks d s e, size-blanks d, drop-blanks d s e)
+list-marker-line d s e = rw (take-blanks d s e, size-indent d, drop-blanks d s e)
 
 -- what the tests ask of a line from its marker on
 record Listed (s : List ℕ) : Type 0 where

@@ -9,11 +9,11 @@ use Rattle.text.specs.Words.{str}
 use Rattle.text.specs.Chars.{is-letter}
 use Rattle.text.specs.Utf8.{utf8, size}
 use Rattle.text.proofs.Laws.{utf8-size, size-append}
+use Rattle.text.proofs.Tests.{false-true}
 use Rattle.sheet.specs.Tree.{Kind, plain, strong, em, both, code, Run, run, Mark, ul, ol, Items, Item, items, Block, heading, para, list}
 use Rattle.sheet.specs.Grammar as G
 use Rattle.sheet.specs.Grammar.{NL, Char, Many, stop, more, Text, IsRun, is-run, Line, ThenNL, IsItem, is-alone, is-with, ListOf, IsList, IsBlock, is-heading, is-para, IsPage, concat, first-is, first-letter, before, after, opens, closes, opens-h, closes-h}
 use Rattle.sheet.specs.Written.{sign, written-run, written-runs, Row, place, rows-from, rows, written-row, joined, written-block, written}
-use Rattle.sheet.proofs.Facts.{false-true}
 use Rattle.sheet.proofs.Conditions.{neat-of}
 use Rattle.sheet.proofs.WrittenSize.{size-run, size-item, size-head}
 use Rattle.sheet.proofs.ListOut.{own-row, sub-rows, rows-cons}

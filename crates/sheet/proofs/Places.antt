@@ -1,20 +1,17 @@
 -- The place of an item in a written form of fewer than 16,000 bytes has at most nine digits.
 -- Assumes nothing.
-use Prim.Native.Nat.{ℕ, zero, suc, _+_, _*_, _/_, _%_, _≤_, _<_}
+use Prim.Native.Nat.{ℕ, suc, _+_, _≤_, _<_}
 use native.Mathlib.Omega.{arith}
-use mathlib.Core.Path.{_≡_, refl}
-use mathlib.Core.Bool.{Bool, true, false, cond}
 use mathlib.Core.List.{List, [], _∷_, _++_, map}
-use borrow.Author.Tests.{ltb-false}
-use lib.Dec.{ltb}
 use lib.ListN.{length, length-append}
 use Rattle.text.specs.Words.{str}
 use Rattle.text.specs.Utf8.{size}
-use Rattle.text.specs.Decimal.{digits, decimal}
+use Rattle.text.specs.Decimal.{decimal}
 use Rattle.sheet.specs.Tree.{Mark, ul, ol, Items, end, leaf, node, items, Block}
 use Rattle.sheet.specs.Written.{Row, place, rows-from, rows, written-row, joined, written-block, written}
 use Rattle.sheet.proofs.PageRead.{empty-some}
 use Rattle.text.proofs.Laws.{size-length}
+use Rattle.text.proofs.DecimalLaws.{digits-few}
 use Rattle.sheet.proofs.EachLine.{Lines, a-heading, a-para, a-list, Each}
 use Rattle.sheet.proofs.EachLine as E
 use Rattle.sheet.proofs.WrittenLines.{GoodRuns, Rows, entry-rows}
@@ -22,28 +19,8 @@ use Rattle.sheet.proofs.WrittenLines as W
 use Rattle.sheet.proofs.ReadAll.{AllShort, Shorts}
 
 -- ---- digits
-more-digits : (b e : ℕ) → ((k m : ℕ) → m < b → length (digits k m) ≤ e) → 1 ≤ e → (k n : ℕ) → n < 10 * b → length (digits k n) ≤ suc e
-unfolding digits
-more-digits b e h o zero n l = omega arith
-more-digits b e h o (suc k) n l = go (ltb n 10) (h k (n / 10) (omega arith))
-  where
-    go : (t : Bool) → length (digits k (n / 10)) ≤ e → length (cond t ((48 + n) ∷ []) (digits k (n / 10) ++ ((48 + n % 10) ∷ []))) ≤ suc e
-    go true i = omega arith
-    go false i = omega (arith, length-append (digits k (n / 10)) ((48 + n % 10) ∷ []))
-
-one-digit : (k n : ℕ) → n < 10 → length (digits k n) ≤ 1
-unfolding digits
-one-digit zero n l = omega arith
-one-digit (suc k) n l = go (ltb n 10) refl
-  where
-    go : (t : Bool) → ltb n 10 ≡ t → length (cond t ((48 + n) ∷ []) (digits k (n / 10) ++ ((48 + n % 10) ∷ []))) ≤ 1
-    go true e = omega arith
-    go false e = absurd (omega (arith, ltb-false n 10 e))
-
 pub five-digits : (n : ℕ) → n < 100000 → length (decimal n) ≤ 9
-five-digits n l =
-    let h = more-digits 10000 4 (more-digits 1000 3 (more-digits 100 2 (more-digits 10 1 one-digit (omega arith)) (omega arith)) (omega arith)) (omega arith) (suc n) n l in
-    omega arith
+five-digits n l = let h = digits-few (suc n) 4 n l in omega arith
 
 -- ---- places: there are no more items than bytes
 short-append : (a b : List Row) → AllShort a → AllShort b → AllShort (a ++ b)

@@ -1,5 +1,5 @@
 -- Reading the lines of a written form gives the blocks of its tree.
--- Assumes nothing.
+-- Assumes flush-end.
 use Prim.Native.Nat.{ℕ, zero, suc, _≤_, min}
 use native.Mathlib.Omega.{arith}
 use mathlib.Core.Path.{_≡_, refl, sym, _∙_, ap}
@@ -10,6 +10,7 @@ use Rattle.text.specs.Decimal.{decimal}
 use Rattle.records.specs.Blocks as B
 use Rattle.records.specs.Blocks.{Span, Heading, Paragraph}
 use Rattle.markdown.specs.Blocks.{cleaned, lines, Reader, reader, flush, read-line, read-lines, blocks}
+use Rattle.markdown.proofs.LineLaws.{flush-end}
 use Rattle.sheet.specs.Tree.{Run, items, Block}
 use Rattle.sheet.specs.Written.{span, written-runs, Row, head, text, item, rows-from, rows, written-row, written, marker, block-of, blocks-of}
 use Rattle.sheet.proofs.AllChars.{decimal-all, decimal-some}
@@ -57,17 +58,13 @@ record BlockRead (b : Block) (o : List B.Block) (ls : List (List ℕ)) : Type 0 
   eq : read-lines (reader o []) (map written-row (rows b) ++ ls) ≡ read-lines state ls
   flushed : flush state ≡ reverseAux (map block-of (rows b)) o
 
-nothing : (o : List B.Block) → flush (reader o []) ≡ o
-unfolding flush
-nothing o = refl
-
 read-block : {b : Block} → Lines GoodRuns b → AllShort (rows b) → (o : List B.Block) (ls : List (List ℕ)) → BlockRead b o ls
 unfolding rows read-lines
 read-block (a-heading {n} {l} lo g) h o ls =
     record {
       state = reader (Heading (min n 3) (map span l) ∷ o) [];
       eq = ap (λ (r : Reader). read-lines r ls) (read-heading o (min n 3) (written-runs l) (omega arith) (omega arith) (g .good) ∙ ap (λ (s : List Span). reader (Heading (min n 3) s ∷ o) []) (g .spans-are));
-      flushed = nothing (Heading (min n 3) (map span l) ∷ o);
+      flushed = flush-end (Heading (min n 3) (map span l) ∷ o);
     }
 read-block (a-para {l} g) h o ls =
     record {
@@ -79,7 +76,7 @@ read-block (a-list {m = m} it its e) h o ls =
     record {
       state = reader (reverseAux (map block-of (rows-from 0 m 1 (items (it ∷ its)))) o) [];
       eq = read-entries e h o ls;
-      flushed = nothing (reverseAux (map block-of (rows-from 0 m 1 (items (it ∷ its)))) o);
+      flushed = flush-end (reverseAux (map block-of (rows-from 0 m 1 (items (it ∷ its)))) o);
     }
 
 -- ---- a page

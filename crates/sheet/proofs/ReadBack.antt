@@ -13,7 +13,7 @@ use lib.ListN.{length, length-reverse}
 use lib.Seq.{take-append-seam, append-snoc}
 use borrow.Author.Tests.{not-true}
 use Rattle.text.specs.Words.{starts, index, find}
-use Rattle.text.proofs.Tests.{and-true}
+use Rattle.text.proofs.Tests.{and-true, true-false}
 use Rattle.html.specs.State.{special}
 use Rattle.records.specs.Blocks.{Span}
 use Rattle.spans.specs.Spans as S
@@ -21,7 +21,7 @@ use Rattle.spans.specs.Spans.{Walk, at, push, cleared, flush, kept, code-step, 
 use Rattle.sheet.specs.Tree.{Kind, plain, strong, em, both, code, Run, run}
 use Rattle.sheet.specs.Grammar.{none-of, fits, touch, apart}
 use Rattle.sheet.specs.Written.{span, escaped, sign, written-run, written-runs}
-use Rattle.sheet.proofs.Facts.{true-false, ordinary}
+use Rattle.sheet.proofs.Facts.{ordinary}
 use Rattle.sheet.proofs.Conditions.{filled, code-text}
 use Rattle.markdown.proofs.RunLaws.{not-empty}
 

@@ -9,16 +9,11 @@ use mathlib.Core.Option.{Option, none, some}
 use mathlib.Core.List.{List, [], _∷_, _++_}
 use borrow.Author.Tests.{eqb-true, eq-eqb}
 use lib.Dec.{eqb}
-use Rattle.text.specs.Words.{_>>=_}
 use Rattle.sheet.specs.Reading.{guard, _<|>_, strip, many}
 use Rattle.sheet.specs.Reader.{Answer}
 
 pub none-some : {A B : Type 0} {a : A} → _≡_ {A = Option A} none (some a) → B
 none-some e = let z : _≡_ {A = ℕ} 0 1 = cc in absurd (omega arith)
-
-pub bind-inv : {A B : Type 0} (o : Option A) (f : A → Option B) {y : B} → (o >>= f) ≡ some y → (x : A) × (o ≡ some x) × (f x ≡ some y)
-bind-inv none f e = none-some e
-bind-inv (some x) f e = (x, refl, e)
 
 pub guard-inv : {A : Type 0} (b : Bool) (o : Option A) {y : A} → guard b o ≡ some y → (b ≡ true) × (o ≡ some y)
 guard-inv true o e = (refl, e)

@@ -11,16 +11,14 @@ use Rattle.text.specs.Words.{str, all, is-empty}
 use Rattle.text.specs.Chars.{is-scalar, is-digit}
 use Rattle.text.specs.Utf8.{Scalars, size}
 use Rattle.text.specs.Decimal.{decimal}
-use Rattle.text.proofs.Tests.{and-true}
-use Rattle.text.proofs.Laws.{scalars-true}
-use Rattle.text.proofs.Laws.{size-append}
+use Rattle.text.proofs.Tests.{and-true, false-true}
+use Rattle.text.proofs.Laws.{scalars-true, size-append}
 use Rattle.records.specs.Blocks as B
 use Rattle.records.specs.Blocks.{Span}
 use Rattle.records.specs.Format.{non-empty, is-bullet, digits-stop, is-ordinal, is-marker, WfSpan, WfSpans, WfKind, WfBlock, WfBlocks}
 use Rattle.sheet.specs.Tree.{Kind, plain, strong, em, both, code, Run, run, Block}
 use Rattle.sheet.specs.Grammar.{fits, Line, IsPage}
 use Rattle.sheet.specs.Written.{span, written-run, written-runs, Row, item, rows, written-row, joined, written-block, written, marker, block-of, blocks-of}
-use Rattle.sheet.proofs.Facts.{false-true}
 use Rattle.sheet.proofs.AllChars.{decimal-all, decimal-some}
 use Rattle.sheet.proofs.Conditions.{filled-text}
 use Rattle.sheet.proofs.ReadBack.{all-fit}

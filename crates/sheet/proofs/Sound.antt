@@ -14,8 +14,8 @@ use Rattle.sheet.specs.Grammar as G
 use Rattle.sheet.specs.Grammar.{NL, Char, Many, stop, more, Text, IsRun, is-run, Line, ThenNL, IsItem, is-alone, is-with, ListOf, IsList, IsBlock, is-heading, is-para, IsPage, shown, fits, neat, opens, closes, closes-h, before, after}
 use Rattle.sheet.specs.Reader.{Answer, nl?, own, means, char, text, opening, kind, one-run, line, then-nl, with-list, item, some-items, marked, list-of, read-list, digit, headed, read-heading, read-para, block, at-end, read-page}
 use Rattle.text.specs.Chars.{within}
-use Rattle.text.proofs.Tests.{within-true}
-use Rattle.sheet.proofs.ReadingLaws.{none-some, bind-inv, guard-inv, alt-inv, strip-inv}
+use Rattle.text.proofs.Tests.{within-true, then-some}
+use Rattle.sheet.proofs.ReadingLaws.{none-some, guard-inv, alt-inv, strip-inv}
 
 -- a reader that reads what R says
 module _ {A : Type 0} where
@@ -61,7 +61,7 @@ char-sound s y e =
   where
     by : (q p : Prim.Native.String.String) → ((r : List ℕ) → Char (str p ++ r) (str q) r) → means q p s ≡ some y → Char s (y .0) (y .1)
     by q p h e =
-        let b = bind-inv (strip (str p) s) _ e in
+        let b = then-some (strip (str p) s) _ e in
         gives Char (b .2) (from Char (strip-inv (str p) s (b .1)) (h (b .0)))
 
 text-sound : (s : List ℕ) → Text s (text s .0) (text s .1)
@@ -75,15 +75,15 @@ kind-inv s y e =
   where
     by : (k : Kind) → opening k s ≡ some y → s ≡ before (y .0) ++ y .1
     by k e =
-        let b = bind-inv (strip (before k) s) _ e in
+        let b = then-some (strip (before k) s) _ e in
         gives (λ s k r. s ≡ before k ++ r) (b .2) (strip-inv (before k) s (b .1))
 
 pub run-sound : Sound IsRun one-run
 unfolding one-run
 run-sound s y e =
-    let k = bind-inv (kind s) _ e in
+    let k = then-some (kind s) _ e in
     let g = guard-inv (fits (k .0 .0) (text (k .0 .1) .0)) _ (k .2) in
-    let a = bind-inv (strip (after (k .0 .0)) (text (k .0 .1) .1)) _ (g .1) in
+    let a = then-some (strip (after (k .0 .0)) (text (k .0 .1) .1)) _ (g .1) in
     let t = subst (Text (k .0 .1) (text (k .0 .1) .0)) (strip-inv (after (k .0 .0)) (text (k .0 .1) .1) (a .1)) (text-sound (k .0 .1)) in
     gives IsRun (a .2) (from IsRun (kind-inv s (k .0) (k .1)) (is-run (k .0 .0) t (g .0)))
 
@@ -95,7 +95,7 @@ line-sound s y e =
 
 pub then-nl-sound : {A : Type 0} (R : List ℕ → A → List ℕ → Type 0) (p : List ℕ → Answer A) → Sound R p → Sound (ThenNL R) (then-nl p)
 then-nl-sound R p h s y e =
-    let b = bind-inv (p s) _ e in
+    let b = then-some (p s) _ e in
     gives (ThenNL R) (b .2) (G.then (h s (b .0) (b .1)) (nl-sound (b .0 .1)))
 
 -- the same of a list, which has two parts
@@ -105,16 +105,16 @@ Listed L s t r = L s (t .0) (t .1) r
 pub item-sound : (L : List ℕ → Mark → Items → List ℕ → Type 0) (read : List ℕ → Answer (Mark × Items)) → Sound (Listed L) read → Sound (IsItem L) (item read)
 unfolding item
 item-sound L read h s y e =
-    let o = bind-inv (strip (str "<li>") s) _ e in
-    let l = bind-inv (line (o .0)) _ (o .2) in
+    let o = then-some (strip (str "<li>") s) _ e in
+    let l = then-some (line (o .0)) _ (o .2) in
     from (IsItem L) (strip-inv (str "<li>") s (o .1)) (go (o .0) (l .0) (line-sound (o .0) (l .0) (l .1)) (strip (str "</li>") (l .0 .1)) refl (l .2))
   where
     go : (s : List ℕ) (x : List Run × List ℕ) → Line s (x .0) (x .1) → (o : Option (List ℕ)) → strip (str "</li>") (x .1) ≡ o
         → case o (with-list read (x .0) (x .1)) (λ r. some (alone (x .0), r)) ≡ some y → IsItem L (str "<li>" ++ s) (y .0) (y .1)
     go s x l (some r) e f = gives (IsItem L) f (is-alone (subst (Line s (x .0)) (strip-inv (str "</li>") (x .1) e) l))
     go s x l none e f =
-        let b = bind-inv (read (nl? (x .1))) _ f in
-        let c = bind-inv (strip (str "</li>") (nl? (b .0 .1))) _ (b .2) in
+        let b = then-some (read (nl? (x .1))) _ f in
+        let c = then-some (strip (str "</li>") (nl? (b .0 .1))) _ (b .2) in
         gives (IsItem L) (c .2) (is-with l (nl-sound (x .1)) (h (nl? (x .1)) (b .0) (b .1)) (subst (NL (b .0 .1)) (strip-inv (str "</li>") (nl? (b .0 .1)) (c .1)) (nl-sound (b .0 .1))))
 
 pub marked-inv : (s : List ℕ) (y : Mark × List ℕ) → (marked ul s <|> marked ol s) ≡ some y → s ≡ opens (y .0) ++ y .1
@@ -122,17 +122,17 @@ marked-inv s y e = ⊎-elim (by ul) (by ol) (alt-inv (marked ul s) _ e)
   where
     by : (m : Mark) → marked m s ≡ some y → s ≡ opens (y .0) ++ y .1
     by m e =
-        let b = bind-inv (strip (opens m) s) _ e in
+        let b = then-some (strip (opens m) s) _ e in
         gives (λ s m r. s ≡ opens m ++ r) (b .2) (strip-inv (opens m) s (b .1))
 
 list-sound : (I : List ℕ → Item → List ℕ → Type 0) (read : List ℕ → Answer Item) → Sound I read → Sound (Listed (ListOf I)) (list-of read)
 unfolding list-of
 list-sound I read h s y e =
-    let m = bind-inv (marked ul s <|> marked ol s) _ e in
+    let m = then-some (marked ul s <|> marked ol s) _ e in
     let s₁ = nl? (m .0 .1) in
     let x = many (then-nl read) (length s) s₁ in
-    let i = bind-inv (some-items (x .0)) _ (m .2) in
-    let c = bind-inv (strip (closes (m .0 .0)) (x .1)) _ (i .2) in
+    let i = then-some (some-items (x .0)) _ (m .2) in
+    let c = then-some (strip (closes (m .0 .0)) (x .1)) _ (i .2) in
     let q = many-sound (ThenNL I) (then-nl read) (then-nl-sound I read h) (length s) s₁ in
     gives (Listed (ListOf I)) (c .2) (from (Listed (ListOf I)) {x = (m .0 .0, i .0)} (marked-inv s (m .0) (m .1)) (go (m .0 .0) (m .0 .1) (c .0) (x .0) (i .0) (i .1) (subst (Many (ThenNL I) s₁ (x .0)) (strip-inv (closes (m .0 .0)) (x .1) (c .1)) q)))
   where
@@ -148,11 +148,11 @@ read-list-sound (suc d) s y e = list-sound (IsItem (IsList d)) (item (read-list 
 heading-sound : Sound IsBlock read-heading
 unfolding read-heading headed
 heading-sound s y e =
-    let o = bind-inv (strip (str "<h") s) _ e in
-    let n = bind-inv (digit (o .0)) _ (o .2) in
-    let g = bind-inv (strip (str ">") (n .0 .1)) _ (n .2) in
-    let l = bind-inv (line (g .0)) _ (g .2) in
-    let c = bind-inv (strip (closes-h (n .0 .0)) (l .0 .1)) _ (l .2) in
+    let o = then-some (strip (str "<h") s) _ e in
+    let n = then-some (digit (o .0)) _ (o .2) in
+    let g = then-some (strip (str ">") (n .0 .1)) _ (n .2) in
+    let l = then-some (line (g .0)) _ (g .2) in
+    let c = then-some (strip (closes-h (n .0 .0)) (l .0 .1)) _ (l .2) in
     let d = digit-inv (o .0) (n .0) (n .1) in
     gives IsBlock (c .2)
     (from IsBlock
@@ -172,9 +172,9 @@ heading-sound s y e =
 para-sound : Sound IsBlock read-para
 unfolding read-para
 para-sound s y e =
-    let o = bind-inv (strip (str "<p>") s) _ e in
-    let l = bind-inv (line (o .0)) _ (o .2) in
-    let c = bind-inv (strip (str "</p>") (l .0 .1)) _ (l .2) in
+    let o = then-some (strip (str "<p>") s) _ e in
+    let l = then-some (line (o .0)) _ (o .2) in
+    let c = then-some (strip (str "</p>") (l .0 .1)) _ (l .2) in
     gives IsBlock (c .2)
     (from IsBlock (strip-inv (str "<p>") s (o .1))
     (is-para (subst (Line (o .0) (l .0 .0)) (strip-inv (str "</p>") (l .0 .1) (c .1)) (line-sound (o .0) (l .0) (l .1)))))
@@ -185,7 +185,7 @@ block-sound s y e =
     ⊎-elim (heading-sound s y) (λ e. ⊎-elim (para-sound s y) by-list (alt-inv (read-para s) _ e)) (alt-inv (read-heading s) _ e)
   where
     by-list : (read-list 8 s >>= λ x. some (list (x .0 .0) (x .0 .1), x .1)) ≡ some y → IsBlock s (y .0) (y .1)
-    by-list e = let b = bind-inv (read-list 8 s) _ e in gives IsBlock (b .2) (G.is-list (read-list-sound 8 s (b .0) (b .1)))
+    by-list e = let b = then-some (read-list 8 s) _ e in gives IsBlock (b .2) (G.is-list (read-list-sound 8 s (b .0) (b .1)))
 
 pub page-sound : (s : List ℕ) (t : List Block) → read-page s ≡ some t → IsPage s t
 unfolding read-page

@@ -12,14 +12,14 @@ use lib.Dec.{ltb, leb}
 use lib.ListN.{length}
 use Rattle.text.specs.Words.{case}
 use Rattle.text.specs.Utf8.{Scalars, size, encode, decode}
-use Rattle.text.proofs.Tests.{and-true}
+use Rattle.text.proofs.Tests.{and-true, then-some}
 use Rattle.text.proofs.Laws.{decode-iff, decode-sound}
 use Rattle.sheet.specs.Tree.{Block}
 use Rattle.sheet.specs.Grammar.{IsPage}
 use Rattle.sheet.specs.Reader.{read-page}
 use Rattle.sheet.specs.Written.{written}
 use Rattle.sheet.specs.Sheet.{IsSheet}
-use Rattle.sheet.proofs.ReadingLaws.{none-some, bind-inv, guard-inv}
+use Rattle.sheet.proofs.ReadingLaws.{none-some, guard-inv}
 use Rattle.sheet.proofs.Sound.{page-sound}
 use Rattle.sheet.proofs.Complete.{page-complete}
 use Rattle.sheet.specs.Calls.{small, sheet, Tested, no-utf8, no-sheet, yes-sheet, sheet-call, number, counts}
@@ -36,7 +36,7 @@ one-tree {s} {t} {u} p q = let e : some t ≡ some u = sym (page-complete p) ∙
 pub sheet-sound : (s : List ℕ) (t : List Block) → sheet s ≡ some t → IsPage s t × (small t ≡ true)
 unfolding sheet
 sheet-sound s t e =
-    let b = bind-inv (read-page s) _ e in
+    let b = then-some (read-page s) _ e in
     let g = guard-inv (small (b .0)) _ (b .2) in
     let z : b .0 ≡ t = cc (g .1) in
     (page-sound s t (b .1 ∙ ap some z), ap small (sym z) ∙ g .0)

@@ -19,12 +19,12 @@ use Rattle.sheet.proofs.AllChars.{Marks}
 use Rattle.sheet.proofs.TestTags.{low, ascii}
 
 -- what is written besides texts is ASCII
-digit-low : (c : ℕ) → is-digit c ≡ true → low c ≡ true
-digit-low c e = lt-ltb c 0x80 (let f = within-true 48 57 c e in omega (arith, f .1))
+low-digit : (c : ℕ) → is-digit c ≡ true → low c ≡ true
+low-digit c e = lt-ltb c 0x80 (let f = within-true 48 57 c e in omega (arith, f .1))
 
 pub low-marks : Marks low
 low-marks =
-    record { backslash = refl; star = refl; tick = refl; hash = refl; blank = refl; dash = refl; point = refl; digit = digit-low }
+    record { backslash = refl; star = refl; tick = refl; hash = refl; blank = refl; dash = refl; point = refl; digit = low-digit }
 
 pub counts : {a b c d : ℕ} → a ≡ c → b ≡ d → _≡_ {A = Count} (record { bytes = a; chars = b }) (record { bytes = c; chars = d })
 counts e f = cc

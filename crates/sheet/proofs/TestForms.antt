@@ -3,13 +3,11 @@
 use Prim.Native.Nat.{ℕ, zero, suc, _+_, _*_, _/_, _%_, _≤_, _<_, min}
 use native.Mathlib.Omega.{arith}
 use mathlib.Core.Path.{_≡_, refl, sym, _∙_, ap}
-use mathlib.Core.Bool.{Bool, true, false, cond}
 use mathlib.Core.List.{List, [], _∷_, _++_, append-nil, append-assoc}
-use borrow.Author.Tests.{lt-ltb, le-ltb, ltb-false}
-use lib.Dec.{ltb}
 use lib.ListN.{length, length-append}
 use Rattle.text.specs.Words.{str, repeat}
-use Rattle.text.specs.Decimal.{digits, decimal}
+use Rattle.text.specs.Decimal.{decimal}
+use Rattle.text.proofs.DecimalLaws.{decimal-small, decimal-large}
 use Rattle.sheet.specs.Tree.{Run, Mark, Items, Item, alone, with, items}
 use Rattle.sheet.specs.Written.{Row, item, place, rows-from, lead, written-runs, written-row}
 use Rattle.sheet.specs.Weight.{weight, alike, added}
@@ -18,27 +16,6 @@ use Rattle.sheet.specs.declared.count.Count.{Count}
 use Rattle.sheet.proofs.TestTags.{low}
 use Rattle.sheet.proofs.TestCount.{low-marks, counts, weight-append, weight-ascii}
 use Rattle.sheet.proofs.AllChars.{all-append, all-blanks, all-lead}
-
--- ---- decimal digits
-digits-enough : (k j n : ℕ) → n < k → n < j → digits k n ≡ digits j n
-unfolding digits
-digits-enough zero j n a b = absurd (omega arith)
-digits-enough (suc k) zero n a b = absurd (omega arith)
-digits-enough (suc k) (suc j) n a b = go (λ (m : ℕ) u v. digits-enough k j m u v) (ltb n 10) refl
-  where
-    go : ((m : ℕ) → m < k → m < j → digits k m ≡ digits j m) → (t : Bool) → ltb n 10 ≡ t
-        → cond t ((48 + n) ∷ []) (digits k (n / 10) ++ ((48 + n % 10) ∷ [])) ≡ cond t ((48 + n) ∷ []) (digits j (n / 10) ++ ((48 + n % 10) ∷ []))
-    go ih true e = refl
-    go ih false e = let l = ltb-false n 10 e in ap (λ (d : List ℕ). d ++ ((48 + n % 10) ∷ [])) (ih (n / 10) (omega arith) (omega arith))
-
-pub decimal-small : (n : ℕ) → n < 10 → length (decimal n) ≡ 1
-unfolding digits
-decimal-small n h = rw (lt-ltb n 10 h)
-
-pub decimal-large : (n : ℕ) → 10 ≤ n → length (decimal n) ≡ length (decimal (n / 10)) + 1
-unfolding digits
-decimal-large n h =
-    rw (le-ltb n 10 h, digits-enough n (suc (n / 10)) (n / 10) (omega arith) (omega arith)) (length-append (digits (suc (n / 10)) (n / 10)) ((48 + n % 10) ∷ []))
 
 -- ---- what stands before an item's line
 indent-length : (d : ℕ) → length (repeat d "  ") ≡ d * 2
@@ -103,7 +80,7 @@ module _ (d n : ℕ) (l : List Run) {a b c : Count} (e : a ≡ weight (row-lead 
 
 -- ---- how many digits: what is left of the number has as many as were not counted
 pub digit-less : (n m k : ℕ) → k + length (decimal m) ≡ length (decimal n) + 1 → 10 ≤ m → k + 1 + length (decimal (m / 10)) ≡ length (decimal n) + 1
-digit-less n m k e h = omega (arith, decimal-large m h)
+digit-less n m k e h = omega (arith, ap length (decimal-large m h), length-append (decimal (m / 10)) ((48 + m % 10) ∷ []))
 
 pub digit-last : (n m k : ℕ) → k + length (decimal m) ≡ length (decimal n) + 1 → m < 10 → k ≡ length (decimal n)
-digit-last n m k e h = omega (arith, decimal-small m h)
+digit-last n m k e h = omega (arith, ap length (decimal-small m h))

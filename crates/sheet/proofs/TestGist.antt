@@ -3,7 +3,7 @@
 use Prim.Native.Nat.{ℕ, _+_, _≤_}
 use native.Mathlib.Omega.{arith}
 use mathlib.Core.Path.{_≡_, refl, sym, _∙_, ap}
-use mathlib.Core.Bool.{Bool, true, false, not, cond, _&&_, _||_, and-assoc, and-true as and-true-right}
+use mathlib.Core.Bool.{Bool, true, false, not, cond, _&&_, and-assoc, and-true as and-true-right}
 use mathlib.Core.List.{List, [], _∷_, _++_}
 use lib.Dec.{eqb}
 use lib.ListN.{length}
@@ -24,15 +24,6 @@ use Rattle.sheet.specs.Says.{from}
 use mathlib.Core.Option.{none}
 use Rattle.sheet.proofs.TestText.{Text-to, text-none, text-next, text-ends, Glyph-is}
 use Rattle.sheet.proofs.TestCount.{counts, weight-append}
-
--- ---- any of five
-pub five : (a b c d e : Bool) → (((a || b) || c) || d) || e ≡ a || (b || (c || (d || (e || false))))
-five true b c d e = refl
-five false true c d e = refl
-five false false true d e = refl
-five false false false true e = refl
-five false false false false true = refl
-five false false false false false = refl
 
 -- ---- one character's written form
 special-one : (c : ℕ) → special c ≡ true → weight (escaped (c ∷ [])) ≡ record { bytes = length (utf8 c) + 1; chars = 2 }

@@ -18,10 +18,9 @@ use Rattle.sheet.specs.Reading.{guard, many}
 use Rattle.sheet.specs.Tree.{Block}
 use Rattle.sheet.specs.Reader.{nl?, then-nl, block, at-end, read-page}
 use Rattle.sheet.specs.Written.{joined, written}
-use Rattle.sheet.specs.Weight.{weight, alike, added}
+use Rattle.sheet.specs.Weight.{weight, alike, added, judged}
 use Rattle.sheet.specs.Says.{from, Skipped}
 use Rattle.sheet.specs.Forms.{block-form}
-use Rattle.sheet.specs.Weight.{judged}
 use Rattle.sheet.specs.Calls.{small, sheet, Tested, no-utf8, no-sheet, yes-sheet, sheet-call, answer}
 use Rattle.sheet.specs.declared.count.Count.{Count}
 use Rattle.sheet.specs.declared.Verdict.the-variants.{Yes, No}

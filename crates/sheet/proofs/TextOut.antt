@@ -8,11 +8,11 @@ use borrow.Author.Tests.{not-true, eqb-true}
 use lib.Dec.{eqb}
 use Rattle.text.specs.Words.{is-empty}
 use Rattle.text.specs.Chars.{is-space}
-use Rattle.text.proofs.Tests.{and-true}
+use Rattle.text.proofs.Tests.{and-true, false-true}
 use Rattle.html.specs.State.{State, with-out, line-start, spaced, special, opens, ends-with-digit, escape, put, blank, paused, next, put-all}
 use Rattle.sheet.specs.Grammar.{last-is, no-blank}
 use Rattle.sheet.specs.Written.{escaped}
-use Rattle.sheet.proofs.Facts.{false-true, no-space}
+use Rattle.sheet.proofs.Facts.{no-space}
 use Rattle.sheet.proofs.Turns.{Low, low-tail}
 use Rattle.sheet.proofs.Tags.{st}
 

@@ -3,11 +3,11 @@
 use Prim.Native.Nat.{ℕ, suc, _+_, _-_, _≤_, _<_}
 use native.Mathlib.Omega.{arith}
 use native.Mathlib.Nat.{suc-add, zero-add}
-use mathlib.Core.Path.{_≡_, refl, sym, _∙_, ap}
+use mathlib.Core.Path.{_≡_, refl, sym, _∙_, ap, subst}
 use mathlib.Core.Bool.{Bool, true, false, not, cond}
 use mathlib.Core.Option.{Option, none, some}
 use mathlib.Core.List.{List, [], _∷_, _++_, reverseAux}
-use borrow.Author.Tests.{not-true, lt-ltb, le-ltb}
+use borrow.Author.Tests.{not-true, lt-ltb}
 use lib.Dec.{eqb}
 use lib.ListN.{length, take, drop}
 use lib.Seq.{take-append-seam, drop-append-seam}
@@ -18,6 +18,7 @@ use Rattle.text.proofs.Tests.{and-true}
 use Rattle.reference.specs.Unescape.{unescape}
 use Rattle.html.specs.State.{State, text, put-all}
 use Rattle.html.specs.Page.{Turn, read, refused, words, comment, a-tag, markup, turn, tag-read, inside, on-turn, loop}
+use Rattle.html.proofs.TurnLaws.{Reads, turn-reads}
 use Rattle.sheet.specs.Grammar.{none-of}
 
 -- the loop goes on
@@ -36,11 +37,6 @@ low-front (a ∷ w) v h = low-tail a v (low-front w (a ∷ v) h)
 pub loop-turn : (x : ℕ) (s : List ℕ) (c : State) → Low (c .out) → loop 0 (x ∷ s) c ≡ on-turn (turn (x ∷ s) c) (λ n d. loop (n - 1) s d)
 unfolding loop Low
 loop-turn x s c h = rw (lt-ltb (size (c .out)) 16000 h)
-
-pub loop-stop : (s : List ℕ) (c : State) → 16000 ≤ size (c .out) → loop 0 s c ≡ some c
-unfolding loop
-loop-stop [] c h = refl
-loop-stop (x ∷ s) c h = rw (le-ltb (size (c .out)) 16000 h)
 
 -- text before a tag
 
@@ -94,42 +90,6 @@ markup-moved n s c = rw (comment-moved n s c, a-tag-moved n s c) (go (starts "<!
     go true = refl
     go false = refl
 
--- a turn goes forward
-abbrev Forward : Turn → Type 0
-Forward refused = Unit {0}
-Forward (read n d) = 1 ≤ n
-
-tag-forward : (n : ℕ) (o : Option State) → 1 ≤ n → Forward (tag-read n o)
-tag-forward n none h = tt
-tag-forward n (some d) h = h
-
-comment-forward : (s : List ℕ) (c : State) → Forward (comment 0 (60 ∷ s) c)
-unfolding comment
-comment-forward s c = go (find "-->" (drop 4 (60 ∷ s)))
-  where
-    go : (o : Option ℕ) → Forward (case o (read (0 + length (60 ∷ s)) c) (λ end. read (0 + 4 + end + 3) c))
-    go none = omega arith
-    go (some e) = omega arith
-
-a-tag-forward : (s : List ℕ) (c : State) → Forward (a-tag 0 (60 ∷ s) c)
-unfolding a-tag
-a-tag-forward s c = go (find ">" (60 ∷ s))
-  where
-    f : ℕ → Option State
-    f e = inside (trim (drop 1 (take e (60 ∷ s)))) c
-
-    go : (o : Option ℕ) → Forward (case o (read (0 + length (60 ∷ s)) c) (λ end. tag-read (0 + end + 1) (f end)))
-    go none = omega arith
-    go (some e) = tag-forward (0 + e + 1) (f e) (omega arith)
-
-forward : (s : List ℕ) (c : State) → Forward (markup 0 (60 ∷ s) c)
-unfolding markup
-forward s c = go (starts "<!--" (60 ∷ s))
-  where
-    go : (b : Bool) → Forward (cond b (comment 0 (60 ∷ s) c) (a-tag 0 (60 ∷ s) c))
-    go true = comment-forward s c
-    go false = a-tag-forward s c
-
 pub loop-past : (n : ℕ) (u s : List ℕ) (c : State) → loop (length u + n) (u ++ s) c ≡ loop n s c
 unfolding loop
 loop-past n [] s c = rw zero-add
@@ -155,7 +115,7 @@ words-nil c = go (c .skip)
 pub turn-tag : (s : List ℕ) (c : State) → turn (60 ∷ s) c ≡ markup 0 (60 ∷ s) c
 turn-tag s c = turn-text [] s c refl ∙ ap (markup 0 (60 ∷ s)) (words-nil c)
 
-go-on : (x : ℕ) (u s : List ℕ) (t : Turn) → Forward t → on-turn (moved (length (x ∷ u)) t) (λ n d. loop (n - 1) (u ++ (60 ∷ s)) d) ≡ on-turn t (λ n d. loop (n - 1) s d)
+go-on : (x : ℕ) (u s : List ℕ) (t : Turn) → Reads t → on-turn (moved (length (x ∷ u)) t) (λ n d. loop (n - 1) (u ++ (60 ∷ s)) d) ≡ on-turn t (λ n d. loop (n - 1) s d)
 go-on x u s refused h = refl
 go-on x u s (read n d) h = loop-skip n x u s d h
 
@@ -164,6 +124,6 @@ loop-text [] s c e h k = ap (loop 0 (60 ∷ s)) (sym (words-nil c))
 loop-text (x ∷ u) s c e h k =
     loop-turn x (u ++ (60 ∷ s)) c h
     ∙ ap (λ (t : Turn). on-turn t (λ n d. loop (n - 1) (u ++ (60 ∷ s)) d)) (turn-text (x ∷ u) s c e ∙ markup-moved (length (x ∷ u)) (60 ∷ s) (words (x ∷ u) c))
-    ∙ go-on x u s (markup 0 (60 ∷ s) (words (x ∷ u) c)) (forward s (words (x ∷ u) c))
+    ∙ go-on x u s (markup 0 (60 ∷ s) (words (x ∷ u) c)) (subst Reads (turn-tag s (words (x ∷ u) c)) (turn-reads (60 ∷ s) (words (x ∷ u) c) (omega arith)))
     ∙ ap (λ (t : Turn). on-turn t (λ n d. loop (n - 1) s d)) (sym (turn-tag s (words (x ∷ u) c)))
     ∙ sym (loop-turn 60 s (words (x ∷ u) c) k)

@@ -9,14 +9,14 @@ use borrow.Author.Tests.{not-true, ne-eqb, eqb-true}
 use lib.Dec.{eqb}
 use Rattle.text.specs.Words.{str, repeat, all, is-empty}
 use Rattle.text.specs.Chars.{is-space, is-digit}
-use Rattle.text.proofs.Tests.{and-true, within-true}
+use Rattle.text.proofs.Tests.{and-true, within-true, false-true}
 use Rattle.spans.specs.Spans.{spans}
 use Rattle.markdown.specs.Blocks.{before-lines, lines}
 use Rattle.sheet.specs.Tree.{Run, run, alone, with, items, Block}
 use Rattle.sheet.specs.Grammar as G
 use Rattle.sheet.specs.Grammar.{Many, IsRun, is-run, stop, more, Line}
 use Rattle.sheet.specs.Written.{span, written-run, written-runs, Row, head, text, item, place, rows-from, rows, lead, written-row, joined, written-block, written}
-use Rattle.sheet.proofs.Facts.{false-true, inked, no-space}
+use Rattle.sheet.proofs.Facts.{inked, no-space}
 use Rattle.sheet.proofs.AllChars.{all-append, all-weaker, Marks, all-run, all-head, all-item}
 use Rattle.sheet.proofs.Source.{inked-text}
 use Rattle.sheet.proofs.ReadBack.{all-fit, line-read}

@@ -8,13 +8,12 @@ use mathlib.Core.List.{List, [], _∷_, _++_, map}
 use lib.ListN.{length}
 use Rattle.text.specs.Words.{str, repeat, is-empty}
 use Rattle.text.specs.Utf8.{utf8, size}
-use Rattle.text.proofs.Tests.{and-true}
+use Rattle.text.proofs.Tests.{and-true, false-true}
 use Rattle.text.proofs.Laws.{utf8-size, size-append}
 use Rattle.html.specs.State.{special}
 use Rattle.sheet.specs.Tree.{Kind, Run, run, Block}
 use Rattle.sheet.specs.Grammar.{fits}
 use Rattle.sheet.specs.Written.{escaped, sign, written-run, written-runs, Row, head, item, lead, written-row, joined, written-block, written}
-use Rattle.sheet.proofs.Facts.{false-true}
 use Rattle.sheet.proofs.Conditions.{filled-text}
 use Rattle.sheet.proofs.ReadBack.{all-fit}
 

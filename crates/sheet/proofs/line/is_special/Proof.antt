@@ -3,7 +3,7 @@
 use lib.Dec.{eqb}
 -- `sheet::line::is_special` meets its contract.
 -- Assumes nothing.
-use Rattle.sheet.proofs.TestGist.{five}
+use Rattle.text.proofs.Tests.{or-five as five}
 -- `sheet::line::is_special` meets its contract.
 -- Assumes nothing.
 use Rattle.html.specs.State.{special}
