@@ -1,6 +1,6 @@
--- The steps of a row and of an indented line.
+-- The steps of each kind of line: a heading or another line that starts with `#`, an item, a row, any other text.
 -- Assumes nothing.
-use Prim.Native.Nat.{ℕ, _+_, _*_, _-_, _≤_}
+use Prim.Native.Nat.{ℕ, _+_, _*_, _-_, _≤_, _<_}
 use mathlib.Core.Bool.{Bool, true, false, cond, _&&_}
 use mathlib.Core.Option.{none, some}
 use mathlib.Core.List.{List, [], _∷_, _++_}
@@ -9,29 +9,78 @@ use mathlib.Core.Path.{_≡_, refl, sym, ap, _∙_, subst}
 use borrow.Author.Tests.{eqb-true, eqb-false}
 use native.Mathlib.Omega.{arith}
 use lib.Dec.{eqb}
-use lib.ListN.{length}
+use lib.ListN.{length, getD}
 use lib.Seq.{sets, length-sets}
-use Rattle.text.specs.Words.{is-empty}
+use Rattle.text.specs.Words.{if_then_else_, is-empty}
 use Rattle.text.specs.Utf8.{chars}
-use Rattle.text.proofs.Tests.{decide, on, and-true}
+use Rattle.text.proofs.Tests.{decide, on, and-true, and-false, and-true-right}
 use Rattle.text.proofs.Laws.{size-chars}
-use Rattle.records.specs.Blocks.{Span, Block, Paragraph, Item}
+use Rattle.records.specs.Blocks.{Span, heading as headed, Block, Heading, Paragraph, Item}
 use Rattle.records.specs.Format.{encode-block}
 use Rattle.spans.specs.Spans.{spans}
 use Rattle.spans.proofs.Bounds.{spans-small}
-use Rattle.markdown.specs.Blocks.{Reader, reader, row, continued, continuation, paragraph, added, plain-space}
+use Rattle.markdown.specs.Blocks.{Reader, reader, flush, is-rule, heading, row, continued, continuation, paragraph, added, plain-space, read-text}
 use Rattle.markdown.specs.Parts.{part, text-of}
 use Rattle.markdown.specs.Cells.{RowIs}
-use Rattle.markdown.specs.Shape.{Trimmed, wrapped}
-use Rattle.markdown.specs.State.{plain-after, span-start, continued-after, continued-out, ItemAt, LastIs, Holds, Safe, grown, Given, Steps, ends}
+use Rattle.markdown.specs.Shape.{Trimmed, Titled, mark, MarkerAt}
+use Rattle.markdown.specs.State.{plain-after, item-after, span-start, continued-after, continued-out, ItemAt, LastIs, Holds, Safe, grown, Given, Steps, ends, starts-with-text}
 use Rattle.markdown.specs.declared.shape.Range.{Range}
 use Rattle.markdown.specs.declared.writer.State.{State}
 use Rattle.markdown.proofs.Basics.{not-empty}
 use Rattle.markdown.proofs.PartLaws.{part-length}
 use Rattle.markdown.proofs.RunLaws.{empty-chars}
-use Rattle.markdown.proofs.StoreLaws.{start-low}
-use Rattle.markdown.proofs.StateLaws.{moved-safe, safe-inside, text-length, text-none, given-small, block-small, plain-step, steps-then, holds-continued, spans-length}
+use Rattle.markdown.proofs.ShapeLaws.{text-rule, text-row, text-other}
+use Rattle.markdown.proofs.StoreLaws.{start-low, kind-short}
+use Rattle.markdown.proofs.StateLaws.{moved-safe, safe-inside, text-length, text-none, given-small, block-small, plain-step, steps-then, steps-as, then-plain, then-item, holds-continued, spans-length}
 use Rattle.markdown.proofs.ParagraphLaws.{stored-text}
+
+-- ---- a line that starts with `#`
+module _
+    (md work out out₁ line : List ℕ)
+    (s p r : State)
+    (copied : Bool)
+    (from to : ℕ)
+    (g : Given md work s from to)
+    (t : line ≡ text-of md work copied from to)
+    (a : Steps md work work out out₁ s p 393221 0 ends)
+  where
+    pub title-small : (level x y : ℕ) → Titled line level x y → length (part line x y) ≤ 65536
+    title-small level x y v =
+        omega (arith, part-length line x y (v .inside .order) (v .inside .bound), v .inside .bound, given-small md work s copied from to line g t .0)
+
+    pub title-step : (level x y : ℕ) (out₂ : List ℕ) → Titled line level x y → r ≡ plain-after p (Heading level (spans (chars (part line x y))))
+        → out₂ ≡ sets out₁ (p .at) (encode-block (Heading level (spans (chars (part line x y)))))
+        → Steps md work work out out₂ s r 800000 (to - from) (heading (chars (text-of md work copied from to)))
+    title-step level x y out₂ v e f =
+        let b = Heading level (spans (chars (part line x y))) in
+        steps-as md work work out out₂ s r 800000 0 800000 (to - from) (added b) (heading (chars (text-of md work copied from to))) (omega arith) (omega arith)
+        (λ q. ap (λ (l : List ℕ). heading (chars l) q) (sym t) ∙ v .reads q)
+        (then-plain md work out out₁ out₂ s p r a b (λ more bs. refl) e f (omega (arith, block-small (headed level) (part line x y), title-small level x y v)))
+
+    pub opened-step : (work₁ : List ℕ) → ((q : Reader) → heading (chars line) q ≡ reader (flush q) (chars line))
+        → Steps md work work₁ out₁ out₁ p r 0 (to - from) (starts-with-text (chars (text-of md work copied from to)))
+        → Steps md work work₁ out out₁ s r 800000 (to - from) (heading (chars (text-of md work copied from to)))
+    opened-step work₁ v b =
+        let T = chars (text-of md work copied from to) in
+        steps-as md work work₁ out out₁ s r 393221 (to - from) 800000 (to - from) (λ q. reader (flush q) T) (heading T) (omega arith) (omega arith)
+        (λ q. ap (λ (l : List ℕ). heading (chars l) q) (sym t) ∙ v q ∙ ap (λ (l : List ℕ). reader (flush q) (chars l)) t)
+        (steps-then md work work work₁ out out₁ out₁ s p r 393221 0 0 (to - from) 393221 ends (starts-with-text T) (omega arith) a b)
+
+-- ---- an item
+module _ (line : List ℕ) (depth at stop from to : ℕ) (l : length line ≤ 65536) (v : MarkerAt line depth at stop from to) where
+  pub item-small : (length (part line from to) ≤ 65536) × (length (part line at stop) ≤ 9)
+  item-small =
+      let i = v .inside in
+      let d = v .digits in
+      (omega (arith, part-length line from to (i .order) (i .bound), i .bound), omega (arith, part-length line at stop (d .order) (d .bound), v .few))
+
+  pub item-line : (md work out out₁ out₂ : List ℕ) (s p r : State) → Steps md work work out out₁ s p 393221 0 ends
+      → r ≡ item-after p depth (mark (part line at stop)) (spans (chars (part line from to)))
+      → out₂ ≡ sets out₁ (p .at) (encode-block (Item depth (mark (part line at stop)) (spans (chars (part line from to)))))
+      → Steps md work work out out₂ s r 800000 0 (added (Item depth (mark (part line at stop)) (spans (chars (part line from to)))))
+  item-line md work out out₁ out₂ s p r a e f =
+      then-item md work out out₁ out₂ s p r a depth (mark (part line at stop)) (part line from to)
+      (kind-short (part line at stop) depth (item-small .1) (v .ascii)) (item-small .0) e f
 
 -- ---- a row
 -- the buffer changes while no paragraph is open
@@ -100,6 +149,10 @@ module _
           (plain-step md work₂ out₁ p (c .safe) 0 1600000 (c .short) b out₂ r (λ more bs. refl) h i k))
 
 -- ---- an indented line
+-- it continues an item, unless a paragraph is open
+abbrev wrapped : List ℕ → Reader → Reader
+wrapped text r = if is-empty (r .paragraph) then continuation text r else paragraph text r
+
 continued-some : (bs : List Block) (s : State) (more : List Span) → ItemAt bs s → (cs : List Block) × (continued more bs ≡ some cs)
 continued-some bs s more w = (Item (w .depth) (w .marker) (w .spans ++ (plain-space ∷ more)) ∷ w .before, ap (continued more) (w .is))
 
@@ -111,7 +164,7 @@ module _ (s : State) where
   start-count h = on (λ (n : ℕ). s .count ≤ n) (eqb (s .count) 0) (λ e. omega (arith, eqb-true (s .count) 0 e)) (λ _. h)
 
 module _ (md work : List ℕ) (s : State) (copied : Bool) (from to : ℕ) (g : Given md work s from to) where
-  pub continue-text : (out out₁ text : List ℕ) (r : State) → text ≡ text-of md work copied from to → s .item && eqb (s .from) (s .to) ≡ true
+  continue-text : (out out₁ text : List ℕ) (r : State) → text ≡ text-of md work copied from to → s .item && eqb (s .from) (s .to) ≡ true
       → r ≡ continued-after s (spans (chars text)) → out₁ ≡ continued-out s (spans (chars text)) out
       → Steps md work work out out₁ s r 400000 (grown s + (to - from)) (wrapped (chars (text-of md work copied from to)))
   unfolding continuation
@@ -149,7 +202,7 @@ module _ (md work : List ℕ) (s : State) (copied : Bool) (from to : ℕ) (g : G
         short = omega arith;
       })
 
-  pub wrapped-text : (work₁ out : List ℕ) (r : State) → s .item && eqb (s .from) (s .to) ≡ false
+  wrapped-text : (work₁ out : List ℕ) (r : State) → s .item && eqb (s .from) (s .to) ≡ false
       → Steps md work work₁ out out s r 0 (grown s + (to - from)) (paragraph (chars (text-of md work copied from to)))
       → Steps md work work₁ out out s r 400000 (grown s + (to - from)) (wrapped (chars (text-of md work copied from to)))
   unfolding continuation
@@ -186,3 +239,63 @@ module _ (md work : List ℕ) (s : State) (copied : Bool) (from to : ℕ) (g : G
           let z : is-empty (q .paragraph) ≡ false = ap is-empty (v .paragraph) ∙ empty-chars P ∙ not-empty P (omega (arith, g .safe .order)) in
           rw z)
           (decide (eqb (s .from) (s .to)))
+
+  -- ---- a line that neither starts with `#` nor has a list marker
+  module _ (line : List ℕ) (t : line ≡ text-of md work copied from to) (i : Bool) (some : from < to) where
+    abbrev after : Reader → Reader
+    after q = read-text q i (chars (text-of md work copied from to))
+
+    as-line : (q : Reader) (x : Reader) → read-text q i (chars line) ≡ x → after q ≡ x
+    as-line q x e = ap (λ (l : List ℕ). read-text q i (chars l)) (sym t) ∙ e
+
+    filled : 0 < length line
+    filled = omega (arith, given-small md work s copied from to line g t .1)
+
+    pub rule-step : (out out₁ : List ℕ) (r : State) → is-rule (chars line) ≡ true → Steps md work work out out₁ s r 393221 0 ends
+        → Steps md work work out out₁ s r 2000000 (grown s + (to - from)) after
+    rule-step out out₁ r e a =
+        steps-as md work work out out₁ s r 393221 0 2000000 (grown s + (to - from)) ends after (omega arith) (omega arith)
+        (λ q. as-line q (ends q) (text-rule line i q e)) a
+
+    module _ (n : is-rule (chars line) ≡ false) where
+      pub row-step : (work₁ out out₁ : List ℕ) (r : State) → getD line 0 0 ≡ 124
+          → Steps md work work₁ out out₁ s r 2000000 0 (added (Paragraph (spans (row (chars (text-of md work copied from to))))))
+          → Steps md work work₁ out out₁ s r 2000000 (grown s + (to - from)) after
+      row-step work₁ out out₁ r e a =
+          steps-as md work work₁ out out₁ s r 2000000 0 2000000 (grown s + (to - from)) _ after (omega arith) (omega arith)
+          (λ q. as-line q _ (text-row line i q filled n e) ∙ ap (λ (l : List ℕ). added (Paragraph (spans (row (chars l)))) q) t) a
+
+      module _ (o : getD line 0 0 ≡ 124 → ⊥) where
+        other : (q : Reader) → after q ≡ (if is-empty (q .paragraph) && i then continuation (chars (text-of md work copied from to)) q else paragraph (chars (text-of md work copied from to)) q)
+        other q =
+            as-line q _ (text-other line i q filled n o)
+            ∙ ap (λ (l : List ℕ). if is-empty (q .paragraph) && i then continuation (chars l) q else paragraph (chars l) q) t
+
+        wraps : i ≡ true → (q : Reader) → after q ≡ wrapped (chars (text-of md work copied from to)) q
+        wraps e q = other q ∙ rw (e, and-true-right (is-empty (q .paragraph)))
+
+        joins : i ≡ false → (q : Reader) → after q ≡ paragraph (chars (text-of md work copied from to)) q
+        joins e q = other q ∙ rw (e, and-false (is-empty (q .paragraph)) false refl)
+
+        pub continue-step : (out out₁ : List ℕ) (r : State) → i && (s .item && eqb (s .from) (s .to)) ≡ true
+            → r ≡ continued-after s (spans (chars line)) → out₁ ≡ continued-out s (spans (chars line)) out
+            → Steps md work work out out₁ s r 2000000 (grown s + (to - from)) after
+        continue-step out out₁ r b e f =
+            let c = and-true i (s .item && eqb (s .from) (s .to)) b in
+            steps-as md work work out out₁ s r 400000 (grown s + (to - from)) 2000000 (grown s + (to - from)) (wrapped (chars (text-of md work copied from to))) after
+            (omega arith) (omega arith) (wraps (c .0))
+            (continue-text out out₁ line r t (c .1) e f)
+
+        pub add-step : (work₁ out : List ℕ) (r : State) → i && (s .item && eqb (s .from) (s .to)) ≡ false
+            → Steps md work work₁ out out s r 0 (grown s + (to - from)) (paragraph (chars (text-of md work copied from to)))
+            → Steps md work work₁ out out s r 2000000 (grown s + (to - from)) after
+        add-step work₁ out r b a =
+            ⊎-elim
+            (λ e.
+            steps-as md work work₁ out out s r 400000 (grown s + (to - from)) 2000000 (grown s + (to - from)) (wrapped (chars (text-of md work copied from to))) after
+            (omega arith) (omega arith) (wraps e)
+            (wrapped-text work₁ out r (rw e at b) a))
+            (λ e.
+            steps-as md work work₁ out out s r 0 (grown s + (to - from)) 2000000 (grown s + (to - from)) (paragraph (chars (text-of md work copied from to))) after
+            (omega arith) (omega arith) (joins e) a)
+            (decide i)

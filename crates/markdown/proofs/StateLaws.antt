@@ -277,6 +277,17 @@ steps-then md w₀ w₁ w₂ o₁ o₂ o₃ s p r c₁ c₂ l₁ l₂ cost f g h
       short = b .short;
     }
 
+-- a step in other words
+pub steps-as : (md w₀ w₁ o₁ o₂ : List ℕ) (s r : State) (c₁ l₁ c₂ l₂ : ℕ) (f g : Reader → Reader) → c₁ ≤ c₂ → l₁ ≤ l₂ → ((q : Reader) → g q ≡ f q)
+    → Steps md w₀ w₁ o₁ o₂ s r c₁ l₁ f → Steps md w₀ w₁ o₁ o₂ s r c₂ l₂ g
+steps-as md w₀ w₁ o₁ o₂ s r c₁ l₁ c₂ l₂ f g c l e a =
+    record {
+      holds = λ out₀ q v. subst (λ (x : Reader). Holds md w₁ out₀ o₂ x r) (sym (e q)) (a .holds out₀ q v);
+      safe = a .safe;
+      grows = omega (arith, a .grows);
+      short = omega (arith, a .short);
+    }
+
 -- a block after the paragraph that it ends
 module _ (md work out out₁ out₂ : List ℕ) (s p r : State) (a : Steps md work work out out₁ s p 393221 0 ends) where
   pub then-plain : (b : Block) → ((more : List Span) (bs : List Block) → continued more (b ∷ bs) ≡ none) → r ≡ plain-after p b
@@ -310,29 +321,3 @@ pub flush-text : (md work out out₁ text : List ℕ) (s p : State) → Safe md 
 flush-text md work out out₁ text s p u t n e f =
     flush-some md work out s u out₁ p n (e ∙ ap (λ (x : List ℕ). plain-after s (Paragraph (spans (chars x)))) t)
     (f ∙ ap (λ (x : List ℕ). sets out (s .at) (encode-block (Paragraph (spans (chars x))))) t)
-
-module _
-    (md work out out₁ out₂ : List ℕ)
-    (s p r : State)
-    (copied : Bool)
-    (from to : ℕ)
-    (text : List ℕ)
-    (g : Given md work s from to)
-    (t : text ≡ text-of md work copied from to)
-    (a : Steps md work work out out₁ s p 393221 0 ends)
-  where
-    pub heading-text : (level : ℕ) → r ≡ plain-after p (Heading level (spans (chars text))) → out₂ ≡ sets out₁ (p .at) (encode-block (Heading level (spans (chars text))))
-        → Steps md work work out out₂ s r 800000 0 (added (Heading level (spans (chars (text-of md work copied from to)))))
-    heading-text level e f =
-        rw (← t)
-        (then-plain md work out out₁ out₂ s p r a (Heading level (spans (chars text))) (λ more bs. refl) e f
-        (omega (arith, block-small (heading level) text, given-small md work s copied from to text g t .0)))
-
-    pub item-text : (depth at stop : ℕ) (ds : List ℕ) → ds ≡ text-of md work copied at stop → Given md work s at stop → stop ≤ at + 9
-        → all is-digit (text-of md work copied at stop) ≡ true
-        → r ≡ item-after p depth (mark ds) (spans (chars text)) → out₂ ≡ sets out₁ (p .at) (encode-block (Item depth (mark ds) (spans (chars text))))
-        → Steps md work work out out₂ s r 800000 0 (added (Item depth (mark (text-of md work copied at stop)) (spans (chars (text-of md work copied from to)))))
-    item-text depth at stop ds d h k i e f =
-        rw (← t, ← d)
-        (then-item md work out out₁ out₂ s p r a depth (mark ds) text
-        (kind-short ds depth (omega (arith, given-small md work s copied at stop ds h d .1)) (rw (← d) at i)) (given-small md work s copied from to text g t .0) e f)
