@@ -21,7 +21,7 @@ use Rattle.spans.specs.Spans.{spans}
 use Rattle.spans.proofs.Bounds.{spans-small}
 use Rattle.markdown.specs.Blocks.{Reader, reader, flush, is-rule, heading, row, continued, continuation, paragraph, added, plain-space, read-text}
 use Rattle.markdown.specs.Parts.{part, text-of}
-use Rattle.markdown.specs.Cells.{RowIs}
+use Rattle.markdown.specs.Cells.{RowIs, RowMade}
 use Rattle.markdown.specs.Shape.{Trimmed, Titled, mark, MarkerAt}
 use Rattle.markdown.specs.State.{plain-after, item-after, span-start, continued-after, continued-out, ItemAt, LastIs, Holds, Safe, grown, Given, Steps, ends, starts-with-text}
 use Rattle.markdown.specs.declared.shape.Range.{Range}
@@ -31,7 +31,7 @@ use Rattle.markdown.proofs.PartLaws.{part-length}
 use Rattle.markdown.proofs.RunLaws.{empty-chars}
 use Rattle.markdown.proofs.ShapeLaws.{text-rule, text-row, text-other}
 use Rattle.markdown.proofs.StoreLaws.{start-low, kind-short}
-use Rattle.markdown.proofs.StateLaws.{moved-safe, safe-inside, text-length, text-none, given-small, block-small, plain-step, steps-then, steps-as, then-plain, then-item, holds-continued, spans-length}
+use Rattle.markdown.proofs.StateLaws.{moved-safe, safe-inside, part-inside, text-length, text-none, given-small, block-small, plain-step, steps-then, steps-as, then-plain, then-item, holds-continued, spans-length}
 use Rattle.markdown.proofs.ParagraphLaws.{stored-text}
 
 -- ---- a line that starts with `#`
@@ -101,10 +101,11 @@ moved-step md work work₁ out s u e z =
 
 module _
     (md work work₁ : List ℕ)
-    (s : State)
     (copied : Bool)
     (from to : ℕ)
-    (g : Given md work s from to)
+    (order : from ≤ to)
+    (bound : to ≤ length md)
+    (room : 6 * length md ≤ length work)
     (f : work₁ ≡ sets work (length md) (text-of md work copied from to))
   where
     abbrev T : List ℕ
@@ -118,35 +119,42 @@ module _
 
     pub row-part : part work₁ n (n + (to - from)) ≡ T
     row-part =
-        let m = given-small md work s copied from to T g refl .1 in
+        let m = text-length md work copied from to (part-inside md work copied from to order bound room) in
         ap (λ (i : ℕ). part work₁ n (n + i)) (sym m)
         ∙ ap (λ (x : List ℕ). part x n (n + length T)) f
-        ∙ stored-text md work T n (omega (arith, g .bound, g .safe .room))
+        ∙ stored-text md work T n (omega (arith, m))
 
-    module _ (work₂ : List ℕ) (e : ℕ) (t : Range) (v : RowIs work₁ work₂ n (n + (to - from)) (n + n) e) (w : Trimmed work₂ (n + n) e t) where
-      pub row-high : e ≤ n + n + 4 * (to - from)
-      row-high = omega (arith, v .high)
+    pub row-made : (work₂ : List ℕ) (e : ℕ) (t : Range) → RowIs work₁ work₂ n (n + (to - from)) (n + n) e → length work₂ ≡ length work₁ → Trimmed work₂ (n + n) e t
+        → RowMade md work work₂ copied from to t
+    row-made work₂ e t v l w =
+        record {
+          text = w .text ∙ v .text ∙ ap (λ (x : List ℕ). row (chars x)) row-part;
+          order = w .order;
+          long = omega (arith, w .low, w .high, v .high);
+          bound = omega (arith, w .high, v .high, l, row-size);
+        }
 
-      row-chars : chars (part work₂ (t .from) (t .to)) ≡ row (chars T)
-      row-chars = w .text ∙ v .text ∙ ap (λ (x : List ℕ). row (chars x)) row-part
+pub row-small : (md work work₁ : List ℕ) (copied : Bool) (from to : ℕ) (t : Range) → RowMade md work work₁ copied from to t
+    → length (part work₁ (t .from) (t .to)) ≤ 4 * (to - from)
+row-small md work work₁ copied from to t v = omega (arith, part-length work₁ (t .from) (t .to) (v .order) (v .bound), v .long)
 
-      pub row-text : (out out₁ out₂ : List ℕ) (p r : State) → length work₂ ≡ length work₁ → Steps md work work out out₁ s p 393221 0 ends
-          → r ≡ plain-after p (Paragraph (spans (chars (part work₂ (t .from) (t .to)))))
-          → out₂ ≡ sets out₁ (p .at) (encode-block (Paragraph (spans (chars (part work₂ (t .from) (t .to))))))
-          → Steps md work work₂ out out₂ s r 2000000 0 (added (Paragraph (spans (row (chars T)))))
-      row-text out out₁ out₂ p r l a h i =
-          let b = Paragraph (spans (chars (part work₂ (t .from) (t .to)))) in
-          let z : p .from ≡ p .to = omega (arith, a .short, a .safe .order) in
-          let c = moved-step md work work₂ out₁ p (a .safe) (l ∙ row-size) z in
-          let y = block-small (b .kind) (part work₂ (t .from) (t .to)) in
-          let o = w .order in
-          let j = w .low in
-          let x = part-length work₂ (t .from) (t .to) o (omega (arith, w .high, row-high, l, row-size, g .bound, g .safe .room)) in
-          let k : length (encode-block b) ≤ 1600000 = omega (arith, w .high, row-high, g .bound, g .safe .small) in
-          rw (← row-chars)
-          (steps-then md work work₂ work₂ out out₁ out₂ s p r 393221 1600000 0 0 2000000 ends (λ q. reader (b ∷ q .blocks) (q .paragraph)) (omega arith)
-          (steps-then md work work work₂ out out₁ out₁ s p p 393221 0 0 0 393221 ends (λ q. q) (omega arith) a c)
-          (plain-step md work₂ out₁ p (c .safe) 0 1600000 (c .short) b out₂ r (λ more bs. refl) h i k))
+-- the row becomes a paragraph
+pub row-text : (md work work₁ out out₁ out₂ : List ℕ) (s p r : State) (copied : Bool) (from to : ℕ) (t : Range) → Given md work s from to
+    → RowMade md work work₁ copied from to t → length work₁ ≡ length work → Steps md work work out out₁ s p 393221 0 ends
+    → r ≡ plain-after p (Paragraph (spans (chars (part work₁ (t .from) (t .to)))))
+    → out₂ ≡ sets out₁ (p .at) (encode-block (Paragraph (spans (chars (part work₁ (t .from) (t .to))))))
+    → Steps md work work₁ out out₂ s r 2000000 0 (added (Paragraph (spans (row (chars (text-of md work copied from to))))))
+row-text md work work₁ out out₁ out₂ s p r copied from to t g v l a h i =
+    let b = Paragraph (spans (chars (part work₁ (t .from) (t .to)))) in
+    let z : p .from ≡ p .to = omega (arith, a .short, a .safe .order) in
+    let c = moved-step md work work₁ out₁ p (a .safe) l z in
+    let y = block-small (b .kind) (part work₁ (t .from) (t .to)) in
+    let x = row-small md work work₁ copied from to t v in
+    let k : length (encode-block b) ≤ 1600000 = omega (arith, g .bound, g .safe .small) in
+    rw (← v .text)
+    (steps-then md work work₁ work₁ out out₁ out₂ s p r 393221 1600000 0 0 2000000 ends (λ q. reader (b ∷ q .blocks) (q .paragraph)) (omega arith)
+    (steps-then md work work work₁ out out₁ out₁ s p p 393221 0 0 0 393221 ends (λ q. q) (omega arith) a c)
+    (plain-step md work₁ out₁ p (c .safe) 0 1600000 (c .short) b out₂ r (λ more bs. refl) h i k))
 
 -- ---- an indented line
 -- it continues an item, unless a paragraph is open

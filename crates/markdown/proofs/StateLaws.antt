@@ -21,13 +21,32 @@ use Rattle.spans.specs.Spans.{spans}
 use Rattle.spans.proofs.Bounds.{spans-small}
 use Rattle.markdown.specs.Blocks.{Reader, reader, flush, added, continued, plain-space}
 use Rattle.markdown.specs.Parts.{source, text-of, Inside}
-use Rattle.markdown.specs.State.{counted, plain-after, item-after, continued-after, continued-out, closed, ItemAt, LastIs, Holds, Placed, Safe, Given, Steps, ends}
+use Rattle.markdown.specs.State.{counted, plain-after, item-after, continued-after, continued-out, ItemAt, LastIs, Holds, Placed, Safe, Given, Steps, ends}
 use Rattle.markdown.specs.declared.writer.State.{State}
 use Rattle.markdown.proofs.Basics.{not-empty}
 use Rattle.markdown.proofs.PartLaws.{part-none, part-length}
 use Rattle.markdown.proofs.RunLaws.{empty-chars}
-use Rattle.markdown.proofs.StoreLaws.{block-length, kind-short}
+use Rattle.markdown.proofs.StoreLaws.{block-length, bits-low}
 use Rattle.markdown.proofs.GrowLaws.{blocks-last, grow}
+
+-- the paragraph is put elsewhere
+abbrev pub placed : State → Bool → ℕ → ℕ → State
+placed s copied from to =
+    record {
+      at = s .at;
+      item = s .item;
+      head = s .head;
+      map = s .map;
+      fields = s .fields;
+      count = s .count;
+      copied = copied;
+      from = from;
+      to = to;
+    }
+
+-- the paragraph is closed
+abbrev closed : State → State
+closed s = placed s false 0 0
 
 -- ---- offsets
 pub safe-inside : (md work : List ℕ) (s : State) → Safe md work s → Inside (source (s .copied) md work) (s .from) (s .to)
@@ -44,9 +63,12 @@ safe-long md work s v = go (s .copied) (v .place)
     go true p = omega (arith, p .0, p .1)
     go false p = omega arith
 
+pub part-inside : (md work : List ℕ) (copied : Bool) (from to : ℕ) → from ≤ to → to ≤ length md → 6 * length md ≤ length work → Inside (source copied md work) from to
+part-inside md work true from to o b m = record { order = o; bound = omega (arith, b, m) }
+part-inside md work false from to o b m = record { order = o; bound = b }
+
 pub given-inside : (md work : List ℕ) (s : State) (copied : Bool) (from to : ℕ) → Given md work s from to → Inside (source copied md work) from to
-given-inside md work s true from to v = record { order = v .order; bound = omega (arith, v .bound, v .safe .room) }
-given-inside md work s false from to v = record { order = v .order; bound = v .bound }
+given-inside md work s copied from to v = part-inside md work copied from to (v .order) (v .bound) (v .safe .room)
 
 pub text-length : (md work : List ℕ) (copied : Bool) (from to : ℕ) → Inside (source copied md work) from to → length (text-of md work copied from to) ≡ to - from
 unfolding text-of
@@ -75,10 +97,6 @@ pub spans-length : (ss : List Span) → length ss ≤ length (encode-spans ss)
 unfolding encode-spans encode-span
 spans-length [] = omega arith
 spans-length (x ∷ ss) = let ih = spans-length ss in omega (arith, length-append (encode-span x) (encode-spans ss))
-
-bits-short : (depth : ℕ) (mk : List ℕ) → kind-bits (item depth mk) ≤ 6
-bits-short zero mk = omega arith
-bits-short (suc d) mk = omega arith
 
 -- ---- a block is added
 module _ (md work out₀ out : List ℕ) (q : Reader) (s : State) (v : Holds md work out₀ out q s) where
@@ -260,7 +278,7 @@ module _ (md work out : List ℕ) (s : State) (u : Safe md work s) where
                 head = omega arith;
                 fields = omega arith;
                 count = omega (arith, spans-length ss);
-                map = bits-short depth mk;
+                map = bits-low depth mk;
               };
           grows = omega arith;
           short = h;

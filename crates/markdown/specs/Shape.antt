@@ -5,9 +5,8 @@ use mathlib.Core.Bool.{true}
 use mathlib.Core.Option.{none, some}
 use mathlib.Core.List.{List, [], _∷_, _++_}
 use mathlib.Core.Path.{_≡_}
-use lib.Dec.{eqb}
 use lib.ListN.{length}
-use Rattle.text.specs.Words.{if_then_else_, str, all}
+use Rattle.text.specs.Words.{str, all}
 use Rattle.text.specs.Chars.{is-digit}
 use Rattle.text.specs.Utf8.{chars}
 use Rattle.text.specs.Trim.{trim}
@@ -42,10 +41,6 @@ TitleIs line Plain = (r : Reader) → heading (chars line) r ≡ reader (flush r
 abbrev pub mark : List ℕ → List ℕ
 mark [] = str "•"
 mark (d ∷ ds) = (d ∷ ds) ++ str "."
-
--- an item's map byte without the bit of its span count
-abbrev pub item-bits : ℕ → ℕ
-item-bits depth = if eqb depth 0 then 4 else 6
 
 abbrev pub item-of : ℕ → List ℕ → List ℕ → Marked
 item-of depth digits text = record { depth = depth; marker = mark digits; item = chars text }

@@ -1,5 +1,5 @@
 // What each line does to the reader's state.
-ghost use Prim.Native.Nat.{_+_, _-_, _≤_, _<_};
+ghost use Prim.Native.Nat.{_+_, _*_, _-_, _≤_, _<_};
 ghost use mathlib.Core.Path.{_≡_};
 ghost use mathlib.Core.Bool.{_&&_};
 ghost use mathlib.Core.List.{List};
@@ -11,6 +11,7 @@ ghost use Rattle.text.specs.Utf8.{chars, Scalars};
 ghost use Rattle.records.specs.Blocks.{Paragraph, Item};
 ghost use Rattle.spans.specs.Spans.{spans};
 ghost use Rattle.markdown.specs.Blocks.{added, row, heading, paragraph, read-text, read-line};
+ghost use Rattle.markdown.specs.Cells.{RowMade};
 ghost use Rattle.markdown.specs.Parts.{part, text-of};
 ghost use Rattle.markdown.specs.Shape.{mark, MarkerAt};
 ghost use Rattle.markdown.specs.State.{Safe, Given, LineGiven, Owned, Steps, grown, ends, starts-with-text};
@@ -19,6 +20,7 @@ use crate::lines::put_text;
 use crate::lines::text_of;
 use crate::rows::put_row;
 use crate::shape::Marker;
+use crate::shape::Range;
 use crate::shape::Title;
 use crate::shape::heading;
 use crate::shape::is_rule;
@@ -179,7 +181,20 @@ fn add_text(
     join_paragraph(markdown, work, s, copied, from, to)
 }
 
-// A row of a table: it is made in the third part of the work buffer.
+// The row of a table, made in the third part of the work buffer: where it starts and ends there.
+fn make_row(markdown: &[u8], work: &mut [u8], copied: bool, from: usize, to: usize) -> Range
+    requires { ⌜ ((from ≤ to) × (to ≤ length (now markdown))) × ((6 * length (now markdown) ≤ length (now work))
+        × Scalars (chars (text-of (now markdown) (now work) copied from to))) ⌝ }
+    ensures { λ r. ⌜ RowMade (now (markdown .entry)) (now (work .entry)) (now (work .exit)) copied from to r ⌝ }
+{
+    let n = markdown.len();
+    put_text(markdown, work, copied, from, to, n);
+    let at = n + n;
+    let end = put_row(work, n, n + (to - from), at);
+    trimmed(work, at, end)
+}
+
+// A row of a table.
 fn row_line(
     markdown: &[u8],
     work: &mut [u8],
@@ -194,11 +209,7 @@ fn row_line(
         (added (Paragraph (spans (row (chars (text-of (now (markdown .entry)) (now (work .entry)) copied from to)))))) ⌝ }
 {
     let p = flush(markdown, work, out, s);
-    let n = markdown.len();
-    put_text(markdown, work, copied, from, to, n);
-    let at = n + n;
-    let end = put_row(work, n, n + (to - from), at);
-    let t = trimmed(work, at, end);
+    let t = make_row(markdown, work, copied, from, to);
     let a = t.from;
     let b = t.to;
     put_paragraph(&work[a..b], out, p)

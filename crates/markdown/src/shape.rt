@@ -1,7 +1,7 @@
 // The shape of a line: a heading, an item or a rule.
 ghost use Prim.Native.Nat.{_+_, _-_, _*_};
 ghost use mathlib.Core.Path.{_≡_};
-ghost use mathlib.Core.Bool.{_||_};
+ghost use mathlib.Core.Bool.{false, _||_};
 ghost use lib.ListN.{length, drop};
 ghost use Rattle.text.specs.Words.{starts, matches, take-while};
 ghost use Rattle.markdown.specs.Parts.{Inside};
@@ -9,6 +9,7 @@ ghost use Rattle.markdown.specs.Shape.{Trimmed, TitleIs, MarkerIs};
 ghost use Rattle.markdown.specs.Blocks.{is-rule};
 ghost use Rattle.text.specs.Chars.{is-digit};
 ghost use Rattle.text.specs.Utf8.{chars};
+ghost use Rattle.text.specs.Trim.{start-of};
 ghost use lib.Dec.{eqb};
 
 // Where a part starts and ends.
@@ -134,14 +135,11 @@ fn is_bullet(line: &[u8], i: usize) -> bool
         | text::starts_with(line, i, b"+ ")
 }
 
-pub(crate) fn list_marker(line: &[u8]) -> Marker
+// A marker of digits, where the line's text starts.
+fn ordered_marker(line: &[u8], at: usize) -> Marker
+    requires { ⌜ (at ≡ start-of (now line)) × (starts "- " (drop at (now line)) || starts "* " (drop at (now line)) || starts "+ " (drop at (now line)) ≡ false) ⌝ }
     ensures { λ r. ⌜ MarkerIs (now (line .entry)) r ⌝ }
 {
-    let at = text::start_of(line);
-    if is_bullet(line, at) {
-        let t = trimmed(line, at + 2, line.len());
-        return Marker::At(at / 2, at, at, t.from, t.to);
-    }
     let n = digits_of(&line[at..]);
     if n == 0 {
         return Marker::Unmarked;
@@ -155,4 +153,15 @@ pub(crate) fn list_marker(line: &[u8]) -> Marker
     }
     let t = trimmed(line, stop + 2, line.len());
     Marker::At(at / 2, at, stop, t.from, t.to)
+}
+
+pub(crate) fn list_marker(line: &[u8]) -> Marker
+    ensures { λ r. ⌜ MarkerIs (now (line .entry)) r ⌝ }
+{
+    let at = text::start_of(line);
+    if is_bullet(line, at) {
+        let t = trimmed(line, at + 2, line.len());
+        return Marker::At(at / 2, at, at, t.from, t.to);
+    }
+    ordered_marker(line, at)
 }
