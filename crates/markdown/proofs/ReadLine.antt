@@ -1,7 +1,6 @@
 -- The steps of a line by its shape.
 -- Assumes nothing.
 use Prim.Native.Nat.{ℕ, _+_, _-_, _≤_, _<_}
-use mathlib.Core.Bool.{Bool}
 use mathlib.Core.Option.{none}
 use mathlib.Core.List.{List}
 use mathlib.Core.Path.{_≡_, sym, ap, _∙_, subst}
@@ -16,7 +15,7 @@ use Rattle.spans.specs.Spans.{spans}
 use Rattle.markdown.specs.Blocks.{Reader, list-marker, heading, added, read-text, read-line}
 use Rattle.markdown.specs.Parts.{part, source, text-of, Inside}
 use Rattle.markdown.specs.Shape.{Trimmed, mark, MarkerAt}
-use Rattle.markdown.specs.State.{Safe, grown, Given, LineGiven, Steps, ends}
+use Rattle.markdown.specs.State.{grown, Given, LineGiven, Steps, ends}
 use Rattle.markdown.specs.declared.shape.Range.{Range}
 use Rattle.markdown.specs.declared.lines.Line.{Line}
 use Rattle.markdown.specs.declared.writer.State.{State}

@@ -25,7 +25,7 @@ use Rattle.markdown.specs.Parts.{part, Inside}
 use Rattle.markdown.specs.Shape.{Trimmed, Titled, mark, MarkerAt}
 use Rattle.markdown.specs.declared.shape.Range.{Range}
 use Rattle.markdown.proofs.Reading.{drop-next}
-use Rattle.markdown.proofs.PartLaws.{part-from, part-none, part-length, part-part}
+use Rattle.markdown.proofs.PartLaws.{part-from, part-none}
 use Rattle.markdown.proofs.RunLaws.{run-chars, run-take, run-all, run-le, run-split, same-low, digit-low, empty-chars, chars-past, starts-in}
 
 ascii-one : (x : ℕ) → x < 0x80 → Ascii (x ∷ [])

@@ -9,13 +9,11 @@ use native.Mathlib.Nat.{zero-add}
 use native.Mathlib.Omega.{arith}
 use lib.ListN.{length, length-append}
 use lib.Seq.{sets}
-use Rattle.text.specs.Words.{is-empty, all}
-use Rattle.text.specs.Chars.{is-digit}
-use Rattle.markdown.specs.Shape.{mark}
+use Rattle.text.specs.Words.{is-empty}
 use Rattle.text.specs.Utf8.{chars}
 use Rattle.text.proofs.Laws.{chars-nil, size-chars}
-use Rattle.records.specs.Blocks.{Span, Kind, heading, item, Block, Heading, Paragraph, Item}
-use Rattle.records.specs.Format.{kind-bits, encode-kind, encode-count, encode-span, encode-spans, encode-block, encode-blocks}
+use Rattle.records.specs.Blocks.{Span, Kind, item, Block, Paragraph, Item}
+use Rattle.records.specs.Format.{encode-kind, encode-count, encode-span, encode-spans, encode-block, encode-blocks}
 use Rattle.records.proofs.Stores.{sets-append}
 use Rattle.spans.specs.Spans.{spans}
 use Rattle.spans.proofs.Bounds.{spans-small}

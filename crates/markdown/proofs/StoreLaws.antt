@@ -5,7 +5,7 @@ use mathlib.Core.Bool.{true, false}
 use mathlib.Core.List.{List, [], _∷_, _++_, append-assoc}
 use mathlib.Core.Path.{_≡_, refl, sym, ap, _∙_}
 use mathlib.Core.Logic.{⊎-elim}
-use borrow.Author.Tests.{ne-eqb, eqb-true, eqb-false}
+use borrow.Author.Tests.{eqb-true, eqb-false}
 use lib.Dec.{eqb}
 use native.Mathlib.Nat.{add-zero}
 use native.Mathlib.Omega.{arith}

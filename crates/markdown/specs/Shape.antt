@@ -5,7 +5,6 @@ use mathlib.Core.Bool.{true}
 use mathlib.Core.Option.{none, some}
 use mathlib.Core.List.{List, [], _∷_, _++_}
 use mathlib.Core.Path.{_≡_}
-use lib.ListN.{length}
 use Rattle.text.specs.Words.{str, all}
 use Rattle.text.specs.Chars.{is-digit}
 use Rattle.text.specs.Utf8.{chars}

@@ -6,7 +6,6 @@ ghost use mathlib.Core.List.{List};
 ghost use Prim.Native.Nat.{ℕ};
 ghost use lib.Dec.{eqb};
 ghost use lib.ListN.{length};
-ghost use lib.Seq.{sets};
 ghost use Rattle.text.specs.Utf8.{chars, Scalars};
 ghost use Rattle.records.specs.Blocks.{Paragraph, Item};
 ghost use Rattle.spans.specs.Spans.{spans};

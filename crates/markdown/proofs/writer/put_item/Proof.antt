@@ -8,7 +8,7 @@ use Rattle.text.specs.Utf8.{chars}
 use Rattle.spans.specs.Spans.{spans}
 use Rattle.records.specs.Blocks.{Item}
 use native.Mathlib.Omega.{arith}
-use mathlib.Core.Path.{sym, _∙_}
+use mathlib.Core.Path.{sym}
 use borrow.Author.Needs.{needs}
 use Rattle.markdown.proofs.writer.put_item.Statement.{statement}
 use Rattle.markdown.proofs.writer.put_item.Tie as tie
