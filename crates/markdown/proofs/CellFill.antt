@@ -1,20 +1,23 @@
 -- The turns of the loop that stores the cells of a row behind the part of the buffer that it reads.
 -- Assumes nothing.
 use Prim.Native.Nat.{ℕ, suc, _+_, _*_, _-_, _≤_, _<_}
-use mathlib.Core.Bool.{Bool, true, false}
+use mathlib.Core.Bool.{Bool, true, false, and-true as and-true-right}
 use mathlib.Core.List.{List, [], _∷_, _++_, append-assoc, append-nil}
-use mathlib.Core.Path.{_≡_, refl, sym, ap, _∙_}
+use mathlib.Core.Logic.{⊎-elim}
+use mathlib.Core.Path.{_≡_, refl, sym, ap, _∙_, subst}
+use borrow.Author.Tests.{eq-eqb, eqb-true}
+use lib.Dec.{eqb}
 use native.Mathlib.Omega.{arith}
 use lib.ListN.{length, getD, take, drop, set, length-append}
 use lib.Seq.{sets, sets-eq, length-sets, take-at, take-take, take-suc, take-append-le, drop-append-le, drop-drop, length-take-le}
 use Rattle.text.specs.Words.{starts, take-while, trim-end-matches}
 use Rattle.text.specs.Utf8.{Scalars, chars}
 use Rattle.text.proofs.RunLaws.{run-le}
-use Rattle.text.proofs.Tests.{starts-room}
+use Rattle.text.proofs.Tests.{starts-room, decide}
 use Rattle.text.proofs.TrimLaws.{end-snoc}
 use Rattle.text.proofs.Lists.{drop-next}
 use Rattle.markdown.specs.Parts.{part}
-use Rattle.markdown.specs.Cells.{cells, dot-bytes, CellsIs, RowIs}
+use Rattle.markdown.specs.Cells.{cells, dot-bytes, CellsIs, RowIs, bar-size}
 use Rattle.markdown.proofs.PartLaws.{drop-take, part-none, part-length}
 use Rattle.markdown.proofs.CellLaws.{cells-spaced, cells-bar, cells-kept, end-nil, bar, row-is}
 
@@ -101,13 +104,13 @@ module _ (work₀ : List ℕ) (a b at : ℕ) where
       left-cons : part work i b ≡ getD work i 0 ∷ part work (i + 1) b
       left-cons = let s = v .size in part-next work i b l (omega (arith, v .low))
 
-      pub spaced-in : starts " | " (part work i b) ≡ true → i + 3 ≤ b
+      spaced-in : starts " | " (part work i b) ≡ true → i + 3 ≤ b
       spaced-in e =
           let s = v .size in
           let n = part-length work i b (omega arith) (omega (arith, v .low)) in
           omega (arith, starts-room (32 ∷ 124 ∷ 32 ∷ []) (part work i b) 0 (omega arith) e)
 
-      pub filling-spaced : (work₁ : List ℕ) → starts " | " (part work i b) ≡ true → work₁ ≡ sets work k dot-bytes → Filling work₀ work₁ a b at (i + 3) (k + 4)
+      filling-spaced : (work₁ : List ℕ) → starts " | " (part work i b) ≡ true → work₁ ≡ sets work k dot-bytes → Filling work₀ work₁ a b at (i + 3) (k + 4)
       filling-spaced work₁ e f =
           let c = left-cons in
           let q : i + 1 + 2 ≡ i + 3 = omega arith in
@@ -119,7 +122,7 @@ module _ (work₀ : List ℕ) (a b at : ℕ) where
           (spaced-in e) (omega arith))
 
       module _ (e : starts " | " (part work i b) ≡ false) where
-        pub filling-bar : (work₁ : List ℕ) → getD work i 0 ≡ 124 → work₁ ≡ sets work k dot-bytes → Filling work₀ work₁ a b at (i + 1) (k + 4)
+        filling-bar : (work₁ : List ℕ) → getD work i 0 ≡ 124 → work₁ ≡ sets work k dot-bytes → Filling work₀ work₁ a b at (i + 1) (k + 4)
         filling-bar work₁ g f =
             let c = left-cons in
             rw f
@@ -127,12 +130,51 @@ module _ (work₀ : List ℕ) (a b at : ℕ) where
             (ap (cells dot-bytes 0) c ∙ cells-bar dot-bytes (getD work i 0) (part work (i + 1) b) (rw c at e) g)
             (omega arith) (omega arith))
 
-        pub filling-kept : (getD work i 0 ≡ 124 → ⊥) → Filling work₀ (set work k (getD work i 0)) a b at (i + 1) (k + 1)
+        filling-kept : (getD work i 0 ≡ 124 → ⊥) → Filling work₀ (set work k (getD work i 0)) a b at (i + 1) (k + 1)
         filling-kept g =
             let c = left-cons in
             filling-more (getD work i 0 ∷ []) 1
             (ap (cells dot-bytes 0) c ∙ cells-kept dot-bytes (getD work i 0) (part work (i + 1) b) (rw c at e) g)
             (omega arith) (omega arith)
+
+      -- what stands at i, by its length
+      starts-bar : starts "|" (part work i b) ≡ eqb (getD work i 0) 124
+      starts-bar = rw left-cons (and-true-right (eqb (getD work i 0) 124))
+
+      module _ (n : ℕ) (e : n ≡ bar-size (part work i b)) where
+        is-three : starts " | " (part work i b) ≡ true → n ≡ 3
+        is-three h = e ∙ rw h
+
+        is-one : starts " | " (part work i b) ≡ false → eqb (getD work i 0) 124 ≡ true → n ≡ 1
+        is-one h g = e ∙ rw (h, starts-bar, g)
+
+        is-none : starts " | " (part work i b) ≡ false → eqb (getD work i 0) 124 ≡ false → n ≡ 0
+        is-none h g = e ∙ rw (h, starts-bar, g)
+
+        pub bar-in : i + n ≤ b
+        bar-in =
+            ⊎-elim
+            (λ h. omega (arith, is-three h, spaced-in h))
+            (λ h. ⊎-elim (λ g. omega (arith, is-one h g)) (λ g. omega (arith, is-none h g)) (decide (eqb (getD work i 0) 124)))
+            (decide (starts " | " (part work i b)))
+
+        pub filling-dot : (work₁ : List ℕ) → (n ≡ 0 → ⊥) → work₁ ≡ sets work k dot-bytes → Filling work₀ work₁ a b at (i + n) (k + 4)
+        filling-dot work₁ z f =
+            ⊎-elim
+            (λ h. subst (λ (j : ℕ). Filling work₀ work₁ a b at (i + j) (k + 4)) (sym (is-three h)) (filling-spaced work₁ h f))
+            (λ h.
+            ⊎-elim
+            (λ g. subst (λ (j : ℕ). Filling work₀ work₁ a b at (i + j) (k + 4)) (sym (is-one h g)) (filling-bar h work₁ (eqb-true (getD work i 0) 124 g) f))
+            (λ g. absurd (z (is-none h g)))
+            (decide (eqb (getD work i 0) 124)))
+            (decide (starts " | " (part work i b)))
+
+        pub filling-other : n ≡ 0 → Filling work₀ (set work k (getD work i 0)) a b at (i + 1) (k + 1)
+        filling-other z =
+            ⊎-elim
+            (λ h. absurd (omega (arith, is-three h, z)))
+            (λ h. filling-kept h (λ g. omega (arith, z, is-one h (eq-eqb (getD work i 0) 124 g))))
+            (decide (starts " | " (part work i b)))
 
     pub filling-end : b ≤ i → CellsIs work₀ work a b at k
     unfolding cells

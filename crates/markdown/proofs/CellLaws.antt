@@ -10,7 +10,7 @@ use native.Mathlib.Omega.{arith}
 use lib.Dec.{eqb, ltb}
 use lib.ListN.{length, getD, take, drop, length-drop}
 use lib.Seq.{take-length, take-suc}
-use Rattle.text.specs.Words.{if_then_else_, starts, starts-with, drop-while, take-while, trim-end-matches, trim-matches}
+use Rattle.text.specs.Words.{if_then_else_, str, starts, starts-with, drop-while, take-while, trim-end-matches, trim-matches}
 use Rattle.text.specs.Utf8.{Scalars, utf8, encode, chars}
 use Rattle.text.specs.Trim.{trim}
 use Rattle.text.proofs.Tests.{decide, on, and-true, within-below}
@@ -21,9 +21,13 @@ use Rattle.text.proofs.Utf8.{utf8-1}
 use Rattle.text.proofs.TrimLaws.{end-snoc}
 use Rattle.text.proofs.Lists.{same-last, last-of}
 use Rattle.markdown.specs.Blocks.{replace, row}
-use Rattle.markdown.specs.Cells.{cells, dot, dot-bytes}
+use Rattle.markdown.specs.Cells.{cells, dot-bytes}
 use Rattle.markdown.proofs.CommentLaws.{starts-high, starts-encode, drop-encode}
 use Rattle.markdown.proofs.RunLaws.{run-chars, same-low}
+
+-- ` · `
+abbrev dot : List ℕ
+dot = str " · "
 
 -- ---- one pass for two replacements
 pub replaced : (n : ℕ) (s : List ℕ) → replace "|" dot 0 (replace " | " dot n s) ≡ cells dot n s

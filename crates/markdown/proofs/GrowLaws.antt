@@ -29,6 +29,10 @@ pub space-spans : (more : List Span) → encode-spans (plain-space ∷ more) ≡
 unfolding encode-spans encode-span size utf8
 space-spans more = refl
 
+space-length : length space-bytes ≡ 6
+unfolding encode-span size utf8
+space-length = refl
+
 -- ---- stores over stores
 overwrite : (l : List ℕ) (a : ℕ) (xs ys : List ℕ) → length xs ≡ length ys → sets (sets l a xs) a ys ≡ sets l a ys
 overwrite l a [] [] e = refl
@@ -100,6 +104,7 @@ module _
                 length-append K (le32 (suc (length more)) ++ Z),
                 length-append (le32 (suc (length more))) Z,
                 length-append space-bytes (encode-spans more),
+                space-length,
               )),
         )
     grow (x ∷ xs) c a out e =
@@ -139,5 +144,6 @@ module _
                 length-append (le32 (suc N)) (S ++ Z),
                 length-append (le32 (suc (length xs))) (S ++ Z),
                 length-append space-bytes (encode-spans more),
+                space-length,
               )),
         )

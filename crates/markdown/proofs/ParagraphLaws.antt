@@ -16,12 +16,12 @@ use Rattle.records.specs.Blocks.{Block}
 use Rattle.records.proofs.Stores.{sets-next}
 use Rattle.markdown.specs.Blocks.{Reader, joined, paragraph}
 use Rattle.markdown.specs.Parts.{part, text-of, Inside}
-use Rattle.markdown.specs.State.{placed, LastIs, Owned, Placed, Safe, grown, Given, Steps, starts-with-text}
+use Rattle.markdown.specs.State.{LastIs, Owned, Placed, Safe, grown, Given, Steps, starts-with-text}
 use Rattle.markdown.specs.declared.writer.State.{State}
 use Rattle.markdown.proofs.PartLaws.{part-none, part-length}
 use Rattle.markdown.proofs.RunLaws.{empty-chars, not-empty}
 use Rattle.markdown.proofs.CellFill.{sets-part, sets-below, part-below}
-use Rattle.markdown.proofs.StateLaws.{given-small, safe-inside, safe-long, text-length, text-none}
+use Rattle.markdown.proofs.StateLaws.{placed, given-small, safe-inside, safe-long, text-length, text-none}
 
 -- ---- a copy within the buffer
 pub record Copies (work₀ work : List ℕ) (from to at i : ℕ) : Type 0 where

@@ -66,8 +66,13 @@ empty-chars (x ∷ xs) =
     (decide (ltb x 0x80))
 
 -- a literal does not stand past the end, nor where another byte than its first stands
-pub starts-past : (d : ℕ) (ps s : List ℕ) (i : ℕ) → length s ≤ i → false ≡ starts-with (d ∷ ps) (drop i s)
-starts-past d ps s i h = rw (drop-of-length-le s h)
+zero-above : {A : Type 0} → 0 < 0 → A
+zero-above h = absurd (omega arith)
 
-pub starts-not : (d : ℕ) (ps s : List ℕ) (i : ℕ) → i < length s → (getD s i 0 ≡ d → ⊥) → false ≡ starts-with (d ∷ ps) (drop i s)
-starts-not d ps s i h n = rw (drop-next s i h, ne-eqb (getD s i 0) d n)
+pub starts-past : (ps s : List ℕ) (i : ℕ) → 0 < length ps → length s ≤ i → false ≡ starts-with ps (drop i s)
+starts-past [] s i f h = zero-above f
+starts-past (d ∷ ps) s i f h = rw (drop-of-length-le s h)
+
+pub starts-not : (ps s : List ℕ) (i : ℕ) → 0 < length ps → i < length s → (getD s i 0 ≡ getD ps 0 0 → ⊥) → false ≡ starts-with ps (drop i s)
+starts-not [] s i f h n = zero-above f
+starts-not (d ∷ ps) s i f h n = rw (drop-next s i h, ne-eqb (getD s i 0) d n)

@@ -1,7 +1,7 @@
 -- The laws of headings, list markers and the order of the tests on a line, on the line's bytes.
 -- Assumes nothing.
 use Prim.Native.Nat.{ℕ, suc, _+_, _-_, _/_, _≤_, _<_, min}
-use mathlib.Core.Bool.{true, false, _&&_, _||_, and-true as and-true-right}
+use mathlib.Core.Bool.{true, false, _&&_, _||_, and-true as and-true-right, Bool}
 use mathlib.Core.Option.{none, some}
 use mathlib.Core.List.{List, [], _∷_, _++_}
 use mathlib.Core.Path.{_≡_, refl, sym, ap, _∙_}
@@ -24,9 +24,9 @@ use Rattle.records.specs.Blocks.{Heading, Paragraph, Item}
 use Rattle.spans.specs.Spans.{spans}
 use Rattle.markdown.specs.Blocks.{is-rule, marked, marker-at, list-marker, row, Reader, reader, flush, added, heading, paragraph, continuation, read-text, read-line}
 use Rattle.markdown.specs.Parts.{part, Inside}
-use Rattle.markdown.specs.Shape.{Trimmed, Titled, mark, MarkerAt, Reads, ReadsText, ReadsItem, wrapped, Bare}
+use Rattle.markdown.specs.Shape.{Trimmed, Titled, mark, MarkerAt}
 use Rattle.markdown.specs.declared.shape.Range.{Range}
-use Rattle.markdown.proofs.PartLaws.{part-from, part-none, part-length, part-part}
+use Rattle.markdown.proofs.PartLaws.{part-from, part-none}
 use Rattle.markdown.proofs.RunLaws.{run-chars, same-low, empty-chars}
 
 ascii-one : (x : ℕ) → x < 0x80 → Ascii (x ∷ [])
@@ -204,20 +204,20 @@ line-eq : (r : Reader) (l t : List ℕ) → trim l ≡ t
     → read-line r l
     ≡ (if is-empty t then reader (flush r) []
     else if starts "#" t then heading t r
-    else case (list-marker l) (read-text r l t) (λ m. added (Item (m .depth) (m .marker) (spans (m .item))) r))
+    else case (list-marker l) (read-text r (starts " " l) t) (λ m. added (Item (m .depth) (m .marker) (spans (m .item))) r))
 unfolding read-line
 line-eq r l t e = rw e
 
-text-eq : (r : Reader) (l t : List ℕ)
-    → read-text r l t
+text-eq : (r : Reader) (i : Bool) (t : List ℕ)
+    → read-text r i t
     ≡ (if is-rule t then reader (flush r) []
     else if starts "|" t then added (Paragraph (spans (row t))) r
-    else if is-empty (r .paragraph) && starts " " l then continuation t r
+    else if is-empty (r .paragraph) && i then continuation t r
     else paragraph t r)
 unfolding read-text
-text-eq r l t = refl
+text-eq r i t = refl
 
--- the first byte of a part
+-- the first byte of a part, and of a text
 module _ (line : List ℕ) (a b : ℕ) (some : a < b) (bound : b ≤ length line) where
   part-cons : part line a b ≡ getD line a 0 ∷ take (b - a - 1) (drop (a + 1) line)
   part-cons = let q : b - a ≡ suc (b - a - 1) = omega arith in rw (drop-next line a (omega arith)) (ap (λ (n : ℕ). take n (getD line a 0 ∷ drop (a + 1) line)) q)
@@ -227,6 +227,9 @@ module _ (line : List ℕ) (a b : ℕ) (some : a < b) (bound : b ≤ length line
 
   pub part-starts : (x : ℕ) → x < 0x80 → starts-with (x ∷ []) (chars (part line a b)) ≡ eqb (getD line a 0) x
   part-starts x h = starts-chars (x ∷ []) (part line a b) (ascii-one x h) ∙ rw part-cons (and-true-right (eqb (getD line a 0) x))
+
+line-starts : (line : List ℕ) (x : ℕ) → 0 < length line → x < 0x80 → starts-with (x ∷ []) (chars line) ≡ eqb (getD line 0 0) x
+line-starts line x f h = rw (part-from line 0) at (part-starts line 0 (length line) f (omega arith) x h)
 
 module _ (line : List ℕ) (a b : ℕ) (t : chars (part line a b) ≡ trim (chars line)) where
   pub line-blank : a ≡ b → (r : Reader) → read-line r (chars line) ≡ reader (flush r) []
@@ -238,7 +241,7 @@ module _ (line : List ℕ) (a b : ℕ) (t : chars (part line a b) ≡ trim (char
     not-blank : (r : Reader)
         → read-line r (chars line)
         ≡ (if eqb (getD line a 0) 35 then heading (chars (part line a b)) r
-        else case (list-marker (chars line)) (read-text r (chars line) (chars (part line a b))) (λ m. added (Item (m .depth) (m .marker) (spans (m .item))) r))
+        else case (list-marker (chars line)) (read-text r (starts " " (chars line)) (chars (part line a b))) (λ m. added (Item (m .depth) (m .marker) (spans (m .item))) r))
     not-blank r =
         line-eq r (chars line) (chars (part line a b)) (sym t)
         ∙ rw (empty-chars (part line a b), part-some line a b some bound, part-starts line a b some bound 35 (omega arith))
@@ -246,77 +249,25 @@ module _ (line : List ℕ) (a b : ℕ) (t : chars (part line a b) ≡ trim (char
     pub line-hash : getD line a 0 ≡ 35 → (r : Reader) → read-line r (chars line) ≡ heading (chars (part line a b)) r
     line-hash e r = not-blank r ∙ rw (eq-eqb (getD line a 0) 35 e)
 
-    -- the parts of a title count from where the trimmed line starts
-    pub line-titled : (l from to : ℕ) → getD line a 0 ≡ 35 → Titled (part line a b) l from to
-        → (a + to ≤ length line) × ((l ≤ 3) × Reads line (a + from) (a + to) (added (Heading l (spans (chars (part line (a + from) (a + to)))))))
-    line-titled l from to e v =
-        let i = v .inside in
-        let o = i .order in
-        let n = part-length line a b (omega arith) bound in
-        let h : to ≤ b - a = omega (arith, i .bound) in (
-          omega arith,
-          (
-            v .low,
-            record {
-              inside = record { order = omega arith; bound = omega arith };
-              reads = λ r. line-hash e r ∙ v .reads r ∙ rw (part-part line a b from to h);
-            },
-          ),
-        )
-
     module _ (other : getD line a 0 ≡ 35 → ⊥) where
-      pub line-listed : (depth at stop from to : ℕ) → MarkerAt line depth at stop from to → ReadsItem line depth at stop from to
-      line-listed depth at stop from to v =
-          record { marker = v; reads = λ r. not-blank r ∙ rw (ne-eqb (getD line a 0) 35 other, v .reads) }
+      pub line-item : (depth at stop from to : ℕ) → MarkerAt line depth at stop from to → (r : Reader)
+          → read-line r (chars line) ≡ added (Item depth (mark (part line at stop)) (spans (chars (part line from to)))) r
+      line-item depth at stop from to v r = not-blank r ∙ rw (ne-eqb (getD line a 0) 35 other, v .reads)
 
-      pub line-bare : list-marker (chars line) ≡ none → Bare line a b
-      line-bare e = record { text = t; some = some; bound = bound; other = other; unmarked = e }
+      pub line-text : list-marker (chars line) ≡ none → (r : Reader) → read-line r (chars line) ≡ read-text r (eqb (getD line 0 0) 32) (chars (part line a b))
+      line-text e r =
+          not-blank r
+          ∙ rw (ne-eqb (getD line a 0) 35 other, e, line-starts line 32 (omega arith) (omega arith))
 
-module _ (line : List ℕ) (a b : ℕ) (v : Bare line a b) where
-  bare-eq : (r : Reader)
-      → read-line r (chars line)
-      ≡ (if is-rule (chars (part line a b)) then reader (flush r) []
-      else if eqb (getD line a 0) 124 then added (Paragraph (spans (row (chars (part line a b))))) r
-      else if is-empty (r .paragraph) && eqb (getD line 0 0) 32 then continuation (chars (part line a b)) r
-      else paragraph (chars (part line a b)) r)
-  bare-eq r =
-      let s = v .some in
-      let l = v .bound in
-      let q : starts-with (32 ∷ []) (chars line) ≡ eqb (getD line 0 0) 32 =
-      (rw (part-from line 0) at (part-starts line 0 (length line) (omega arith) (omega arith) 32 (omega arith)))
-      in
-      not-blank line a b (v .text) s l r
-      ∙ rw (ne-eqb (getD line a 0) 35 (v .other), v .unmarked)
-      (text-eq r (chars line) (chars (part line a b)) ∙ rw (part-starts line a b s l 124 (omega arith), q))
+-- a line that neither starts with `#` nor has a list marker
+module _ (line : List ℕ) (i : Bool) (r : Reader) where
+  pub text-rule : is-rule (chars line) ≡ true → read-text r i (chars line) ≡ reader (flush r) []
+  text-rule e = text-eq r i (chars line) ∙ rw e
 
-  pub bare-rule : is-rule (chars (part line a b)) ≡ true → (r : Reader) → read-line r (chars line) ≡ reader (flush r) []
-  bare-rule e r = bare-eq r ∙ rw e
+  module _ (some : 0 < length line) (n : is-rule (chars line) ≡ false) where
+    pub text-row : getD line 0 0 ≡ 124 → read-text r i (chars line) ≡ added (Paragraph (spans (row (chars line)))) r
+    text-row e = text-eq r i (chars line) ∙ rw (n, line-starts line 124 some (omega arith), eq-eqb (getD line 0 0) 124 e)
 
-  module _ (n : is-rule (chars (part line a b)) ≡ false) where
-    pub bare-row : getD line a 0 ≡ 124
-        → (chars (part line a b) ≡ trim (chars line)) × Reads line a b (added (Paragraph (spans (row (chars (part line a b))))))
-    bare-row e =
-        let s = v .some in (
-          v .text,
-          record {
-            inside = record { order = omega arith; bound = v .bound };
-            reads = λ r. bare-eq r ∙ rw (n, eq-eqb (getD line a 0) 124 e);
-          },
-        )
-
-    module _ (o : getD line a 0 ≡ 124 → ⊥) where
-      pub bare-wrapped : getD line 0 0 ≡ 32 → ReadsText line a b (wrapped (chars (part line a b)))
-      bare-wrapped e =
-          record {
-            some = v .some;
-            bound = v .bound;
-            reads = λ r. bare-eq r ∙ rw (n, ne-eqb (getD line a 0) 124 o, eq-eqb (getD line 0 0) 32 e, and-true-right (is-empty (r .paragraph)));
-          }
-
-      pub bare-text : (getD line 0 0 ≡ 32 → ⊥) → ReadsText line a b (paragraph (chars (part line a b)))
-      bare-text e =
-          record {
-            some = v .some;
-            bound = v .bound;
-            reads = λ r. bare-eq r ∙ rw (n, ne-eqb (getD line a 0) 124 o, ne-eqb (getD line 0 0) 32 e, and-false (is-empty (r .paragraph)) false refl);
-          }
+    pub text-other : (getD line 0 0 ≡ 124 → ⊥)
+        → read-text r i (chars line) ≡ (if is-empty (r .paragraph) && i then continuation (chars line) r else paragraph (chars line) r)
+    text-other o = text-eq r i (chars line) ∙ rw (n, line-starts line 124 some (omega arith), ne-eqb (getD line 0 0) 124 o)

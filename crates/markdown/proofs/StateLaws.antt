@@ -9,24 +9,41 @@ use native.Mathlib.Nat.{zero-add}
 use native.Mathlib.Omega.{arith}
 use lib.ListN.{length, length-append}
 use lib.Seq.{sets}
-use Rattle.text.specs.Words.{is-empty, all}
-use Rattle.text.specs.Chars.{is-digit}
-use Rattle.markdown.specs.Shape.{mark}
+use Rattle.text.specs.Words.{is-empty}
 use Rattle.text.specs.Utf8.{chars}
 use Rattle.text.proofs.Laws.{chars-nil, size-chars}
-use Rattle.records.specs.Blocks.{Span, Kind, heading, item, Block, Heading, Paragraph, Item}
-use Rattle.records.specs.Format.{kind-bits, encode-kind, encode-count, encode-span, encode-spans, encode-block, encode-blocks}
+use Rattle.records.specs.Blocks.{Span, Kind, item, Block, Paragraph, Item}
+use Rattle.records.specs.Format.{encode-kind, encode-count, encode-span, encode-spans, encode-block, encode-blocks}
 use Rattle.records.proofs.Stores.{sets-append}
 use Rattle.spans.specs.Spans.{spans}
 use Rattle.spans.proofs.Bounds.{spans-small}
 use Rattle.markdown.specs.Blocks.{Reader, reader, flush, added, continued, plain-space}
 use Rattle.markdown.specs.Parts.{source, text-of, Inside}
-use Rattle.markdown.specs.State.{counted, plain-after, item-after, continued-after, continued-out, closed, ItemAt, LastIs, Holds, Placed, Safe, Given, Steps, ends}
+use Rattle.markdown.specs.State.{counted, plain-after, item-after, continued-after, continued-out, ItemAt, LastIs, Holds, Placed, Safe, Given, Steps, ends}
 use Rattle.markdown.specs.declared.writer.State.{State}
 use Rattle.markdown.proofs.PartLaws.{part-none, part-length}
 use Rattle.markdown.proofs.RunLaws.{empty-chars, not-empty}
-use Rattle.markdown.proofs.StoreLaws.{block-length, kind-short}
+use Rattle.markdown.proofs.StoreLaws.{block-length, bits-low}
 use Rattle.markdown.proofs.GrowLaws.{blocks-last, grow}
+
+-- the paragraph is put elsewhere
+abbrev pub placed : State → Bool → ℕ → ℕ → State
+placed s copied from to =
+    record {
+      at = s .at;
+      item = s .item;
+      head = s .head;
+      map = s .map;
+      fields = s .fields;
+      count = s .count;
+      copied = copied;
+      from = from;
+      to = to;
+    }
+
+-- the paragraph is closed
+abbrev closed : State → State
+closed s = placed s false 0 0
 
 -- ---- offsets
 pub safe-inside : (md work : List ℕ) (s : State) → Safe md work s → Inside (source (s .copied) md work) (s .from) (s .to)
@@ -43,9 +60,12 @@ safe-long md work s v = go (s .copied) (v .place)
     go true p = omega (arith, p .0, p .1)
     go false p = omega arith
 
+pub part-inside : (md work : List ℕ) (copied : Bool) (from to : ℕ) → from ≤ to → to ≤ length md → 6 * length md ≤ length work → Inside (source copied md work) from to
+part-inside md work true from to o b m = record { order = o; bound = omega (arith, b, m) }
+part-inside md work false from to o b m = record { order = o; bound = b }
+
 pub given-inside : (md work : List ℕ) (s : State) (copied : Bool) (from to : ℕ) → Given md work s from to → Inside (source copied md work) from to
-given-inside md work s true from to v = record { order = v .order; bound = omega (arith, v .bound, v .safe .room) }
-given-inside md work s false from to v = record { order = v .order; bound = v .bound }
+given-inside md work s copied from to v = part-inside md work copied from to (v .order) (v .bound) (v .safe .room)
 
 pub text-length : (md work : List ℕ) (copied : Bool) (from to : ℕ) → Inside (source copied md work) from to → length (text-of md work copied from to) ≡ to - from
 unfolding text-of
@@ -74,10 +94,6 @@ pub spans-length : (ss : List Span) → length ss ≤ length (encode-spans ss)
 unfolding encode-spans encode-span
 spans-length [] = omega arith
 spans-length (x ∷ ss) = let ih = spans-length ss in omega (arith, length-append (encode-span x) (encode-spans ss))
-
-bits-short : (depth : ℕ) (mk : List ℕ) → kind-bits (item depth mk) ≤ 6
-bits-short zero mk = omega arith
-bits-short (suc d) mk = omega arith
 
 -- ---- a block is added
 module _ (md work out₀ out : List ℕ) (q : Reader) (s : State) (v : Holds md work out₀ out q s) where
@@ -259,7 +275,7 @@ module _ (md work out : List ℕ) (s : State) (u : Safe md work s) where
                 head = omega arith;
                 fields = omega arith;
                 count = omega (arith, spans-length ss);
-                map = bits-short depth mk;
+                map = bits-low depth mk;
               };
           grows = omega arith;
           short = h;
@@ -274,6 +290,17 @@ steps-then md w₀ w₁ w₂ o₁ o₂ o₃ s p r c₁ c₂ l₁ l₂ cost f g h
       safe = b .safe;
       grows = omega (arith, a .grows, b .grows);
       short = b .short;
+    }
+
+-- a step in other words
+pub steps-as : (md w₀ w₁ o₁ o₂ : List ℕ) (s r : State) (c₁ l₁ c₂ l₂ : ℕ) (f g : Reader → Reader) → c₁ ≤ c₂ → l₁ ≤ l₂ → ((q : Reader) → g q ≡ f q)
+    → Steps md w₀ w₁ o₁ o₂ s r c₁ l₁ f → Steps md w₀ w₁ o₁ o₂ s r c₂ l₂ g
+steps-as md w₀ w₁ o₁ o₂ s r c₁ l₁ c₂ l₂ f g c l e a =
+    record {
+      holds = λ out₀ q v. subst (λ (x : Reader). Holds md w₁ out₀ o₂ x r) (sym (e q)) (a .holds out₀ q v);
+      safe = a .safe;
+      grows = omega (arith, a .grows);
+      short = omega (arith, a .short);
     }
 
 -- a block after the paragraph that it ends
@@ -309,29 +336,3 @@ pub flush-text : (md work out out₁ text : List ℕ) (s p : State) → Safe md 
 flush-text md work out out₁ text s p u t n e f =
     flush-some md work out s u out₁ p n (e ∙ ap (λ (x : List ℕ). plain-after s (Paragraph (spans (chars x)))) t)
     (f ∙ ap (λ (x : List ℕ). sets out (s .at) (encode-block (Paragraph (spans (chars x))))) t)
-
-module _
-    (md work out out₁ out₂ : List ℕ)
-    (s p r : State)
-    (copied : Bool)
-    (from to : ℕ)
-    (text : List ℕ)
-    (g : Given md work s from to)
-    (t : text ≡ text-of md work copied from to)
-    (a : Steps md work work out out₁ s p 393221 0 ends)
-  where
-    pub heading-text : (level : ℕ) → r ≡ plain-after p (Heading level (spans (chars text))) → out₂ ≡ sets out₁ (p .at) (encode-block (Heading level (spans (chars text))))
-        → Steps md work work out out₂ s r 800000 0 (added (Heading level (spans (chars (text-of md work copied from to)))))
-    heading-text level e f =
-        rw (← t)
-        (then-plain md work out out₁ out₂ s p r a (Heading level (spans (chars text))) (λ more bs. refl) e f
-        (omega (arith, block-small (heading level) text, given-small md work s copied from to text g t .0)))
-
-    pub item-text : (depth at stop : ℕ) (ds : List ℕ) → ds ≡ text-of md work copied at stop → Given md work s at stop → stop ≤ at + 9
-        → all is-digit (text-of md work copied at stop) ≡ true
-        → r ≡ item-after p depth (mark ds) (spans (chars text)) → out₂ ≡ sets out₁ (p .at) (encode-block (Item depth (mark ds) (spans (chars text))))
-        → Steps md work work out out₂ s r 800000 0 (added (Item depth (mark (text-of md work copied at stop)) (spans (chars (text-of md work copied from to)))))
-    item-text depth at stop ds d h k i e f =
-        rw (← t, ← d)
-        (then-item md work out out₁ out₂ s p r a depth (mark ds) text
-        (kind-short ds depth (omega (arith, given-small md work s copied at stop ds h d .1)) (rw (← d) at i)) (given-small md work s copied from to text g t .0) e f)

@@ -5,7 +5,7 @@ use mathlib.Core.Bool.{true, false}
 use mathlib.Core.List.{List, [], _∷_, _++_, append-assoc}
 use mathlib.Core.Path.{_≡_, refl, sym, ap, _∙_}
 use mathlib.Core.Logic.{⊎-elim}
-use borrow.Author.Tests.{ne-eqb, eqb-true, eqb-false}
+use borrow.Author.Tests.{eqb-true, eqb-false}
 use lib.Dec.{eqb}
 use native.Mathlib.Nat.{add-zero}
 use native.Mathlib.Omega.{arith}
@@ -17,9 +17,9 @@ use Rattle.text.specs.Utf8.{utf8, size, encode, chars}
 use Rattle.text.proofs.Tests.{decide, on, and-true, within-true}
 use Rattle.text.proofs.AsciiLaws.{encode-ascii, ascii-append}
 use Rattle.text.proofs.Laws.{size-encode}
-use Rattle.markdown.specs.Shape.{mark, item-bits}
+use Rattle.markdown.specs.Shape.{mark}
 use Rattle.records.specs.Blocks.{Span, item, Block, Item}
-use Rattle.records.specs.Format.{bit, non-empty, le16, le32, kind-bits, encode-kind, encode-count, encode-spans, encode-block}
+use Rattle.records.specs.Format.{bit, non-empty, le16, le32, kind-bits, encode-kind, encode-count, encode-span, encode-spans, encode-block}
 use Rattle.records.proofs.Stores.{sets-append, gap}
 use Rattle.spans.specs.Spans.{spans}
 use Rattle.spans.specs.Line.{line-spans}
@@ -181,12 +181,18 @@ pub kind-short : (ds : List ℕ) (depth : ℕ) → length ds ≤ 9 → all is-di
 kind-short ds zero h a = omega (arith, marker-short ds h a)
 kind-short ds (suc d) h a = omega (arith, marker-short ds h a, length-append (le16 (suc d)) (marker-bytes ds))
 
-pub bits-is : (depth : ℕ) (m : List ℕ) → item-bits depth ≡ kind-bits (item depth m)
-bits-is zero m = refl
-bits-is (suc d) m = rw (ne-eqb (suc d) 0 (λ e. omega arith))
+-- an item's map byte without the bit of its span count
+pub bits-top : (depth : ℕ) → depth ≡ 0 → (m : List ℕ) → 4 ≡ kind-bits (item depth m)
+bits-top zero e m = refl
+bits-top (suc d) e m = absurd (omega arith)
 
-pub bits-low : (depth : ℕ) → item-bits depth ≤ 6
-bits-low depth = on (λ (n : ℕ). n ≤ 6) (eqb depth 0) (λ _. omega arith) (λ _. omega arith)
+pub bits-deep : (depth : ℕ) → (depth ≡ 0 → ⊥) → (m : List ℕ) → 6 ≡ kind-bits (item depth m)
+bits-deep zero n m = absurd (n refl)
+bits-deep (suc d) n m = refl
+
+pub bits-low : (depth : ℕ) (m : List ℕ) → kind-bits (item depth m) ≤ 6
+bits-low zero m = omega arith
+bits-low (suc d) m = omega arith
 
 pub item-state : (s : State) (depth n m f k : ℕ) (mk : List ℕ) (ss : List Span) → n ≡ s .at + length (encode-block (Item depth mk ss))
     → m ≡ kind-bits (item depth mk) → f ≡ s .at + 1 + length (encode-kind (item depth mk)) → k ≡ length ss
@@ -224,6 +230,7 @@ module _
         rw (p, many)
 
     pub continue-out : o₄ ≡ continued-out s (spans (chars text)) out
+    unfolding encode-span size utf8
     continue-out =
         let p : o₂ ≡ sets out start (space-bytes ++ encode-spans (spans (chars text))) =
         g ∙ rw (these, f) (sym (sets-append out start space-bytes (encode-spans (spans (chars text)))))

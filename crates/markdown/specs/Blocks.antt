@@ -117,12 +117,12 @@ continued more (b ∷ bs) = case (with-spans (b .kind) (b .spans) more) none (λ
 unfoldable pub continuation : List ℕ → Reader → Reader
 continuation trimmed r = case (continued (spans trimmed) (r .blocks)) (paragraph trimmed r) (λ bs. reader bs [])
 
--- a line that is neither blank nor starts with `#` and has no list marker
-unfoldable pub read-text : Reader → List ℕ → List ℕ → Reader
-read-text r line trimmed =
+-- a line that is neither blank nor starts with `#` and has no list marker; whether a space stands before its text
+unfoldable pub read-text : Reader → Bool → List ℕ → Reader
+read-text r indented trimmed =
     if is-rule trimmed then reader (flush r) []
     else if starts "|" trimmed then added (Paragraph (spans (row trimmed))) r
-    else if is-empty (r .paragraph) && starts " " line then continuation trimmed r
+    else if is-empty (r .paragraph) && indented then continuation trimmed r
     else paragraph trimmed r
 
 unfoldable pub read-line : Reader → List ℕ → Reader
@@ -130,7 +130,7 @@ read-line r line =
     let trimmed = trim line in
     if is-empty trimmed then reader (flush r) []
     else if starts "#" trimmed then heading trimmed r
-    else case (list-marker line) (read-text r line trimmed) (λ m. added (Item (m .depth) (m .marker) (spans (m .item))) r)
+    else case (list-marker line) (read-text r (starts " " line) trimmed) (λ m. added (Item (m .depth) (m .marker) (spans (m .item))) r)
 
 unfoldable pub read-lines : Reader → List (List ℕ) → Reader
 read-lines r [] = r

@@ -11,10 +11,10 @@ use lib.Dec.{eqb}
 use Rattle.text.specs.Words.{if_then_else_}
 use Rattle.text.specs.Utf8.{Scalars, chars}
 use Rattle.records.specs.Blocks.{Span, item, Block, Item}
-use Rattle.records.specs.Format.{bit, non-empty, le32, kind-bits, encode-kind, encode-count, encode-spans, encode-block, encode-blocks}
+use Rattle.records.specs.Format.{bit, non-empty, le32, kind-bits, encode-kind, encode-count, encode-span, encode-spans, encode-block, encode-blocks}
 use Rattle.spans.specs.Spans.{spans}
 use Rattle.spans.specs.declared.Written.{Written}
-use Rattle.markdown.specs.Blocks.{Reader, reader, flush, continued}
+use Rattle.markdown.specs.Blocks.{Reader, reader, flush, plain-space, continued}
 use Rattle.markdown.specs.Parts.{part, text-of}
 use Rattle.markdown.specs.declared.lines.Line.{Line}
 use Rattle.markdown.specs.declared.writer.State.{State}
@@ -81,32 +81,13 @@ continued-after s more =
       to = s .to;
     }
 
--- the bytes of a span of one space
+-- the record of a span of one space
 abbrev pub space-bytes : List ℕ
-space-bytes = 8 ∷ 1 ∷ 0 ∷ 0 ∷ 0 ∷ 32 ∷ []
+space-bytes = encode-span plain-space
 
 abbrev pub continued-out : State → List Span → List ℕ → List ℕ
 continued-out s more out =
     sets (sets (sets out (span-start s) (space-bytes ++ encode-spans more)) (s .fields) (le32 (s .count + 1 + length more))) (s .head) ((s .map + 8) ∷ [])
-
--- the paragraph is put elsewhere
-abbrev pub placed : State → Bool → ℕ → ℕ → State
-placed s copied from to =
-    record {
-      at = s .at;
-      item = s .item;
-      head = s .head;
-      map = s .map;
-      fields = s .fields;
-      count = s .count;
-      copied = copied;
-      from = from;
-      to = to;
-    }
-
--- the paragraph is closed
-abbrev pub closed : State → State
-closed s = placed s false 0 0
 
 -- the last block is an item, and this is where its record is
 pub record ItemAt (bs : List Block) (s : State) : Type 0 where

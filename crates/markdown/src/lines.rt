@@ -3,7 +3,7 @@ ghost use Prim.Native.Nat.{_+_, _-_, _<_, _≤_};
 ghost use lib.Seq.{sets};
 ghost use mathlib.Core.Path.{_≡_};
 ghost use lib.ListN.{length, drop};
-ghost use Rattle.text.specs.Words.{starts};
+ghost use Rattle.text.specs.Words.{starts-with};
 ghost use Rattle.markdown.specs.Parts.{part, source, text-of, Inside, PastIs, CommentedIs, LineIs};
 
 // A line: a part of the Markdown, or, where a comment was removed from it, of the work buffer; and where the next line starts.
@@ -31,30 +31,18 @@ pub(crate) fn text_of<'a>(
     &markdown[from..to]
 }
 
-// Whether a comment starts at j.
-fn opens(markdown: &[u8], j: usize) -> bool
-    ensures { λ r. ⌜ r ≡ starts "<!--" (drop j (now (markdown .entry))) ⌝ }
+// Whether `mark` stands at j.
+pub(crate) fn stands_at(s: &[u8], j: usize, mark: &[u8]) -> bool
+    requires { ⌜ 0 < length (now mark) ⌝ }
+    ensures { λ r. ⌜ r ≡ starts-with (now (mark .entry)) (drop j (now (s .entry))) ⌝ }
 {
-    if markdown.len() <= j {
+    if s.len() <= j {
         return false;
     }
-    if markdown[j] != b'<' {
+    if s[j] != mark[0] {
         return false;
     }
-    text::starts_with(markdown, j, b"<!--")
-}
-
-// Whether a comment ends at j.
-fn closes(markdown: &[u8], j: usize) -> bool
-    ensures { λ r. ⌜ r ≡ starts "-->" (drop j (now (markdown .entry))) ⌝ }
-{
-    if markdown.len() <= j {
-        return false;
-    }
-    if markdown[j] != b'-' {
-        return false;
-    }
-    text::starts_with(markdown, j, b"-->")
+    text::starts_with(s, j, mark)
 }
 
 // Where the comment ends that starts at i, or the end of the Markdown where it is not closed.
@@ -64,7 +52,7 @@ fn past_comment(markdown: &[u8], i: usize) -> usize
 {
     let mut j = i;
     while j < markdown.len() {
-        if closes(markdown, j) {
+        if stands_at(markdown, j, b"-->") {
             return j + 3;
         }
         j += 1;
@@ -72,7 +60,7 @@ fn past_comment(markdown: &[u8], i: usize) -> usize
     j
 }
 
-// The rest of a line from `start` on, after the k bytes of it that are in the work buffer: a comment stands in the line.
+// The rest of a line from `start` on, after the `have` bytes of it that are in the work buffer: a comment stands in the line.
 fn commented(markdown: &[u8], start: usize, have: usize, work: &mut [u8]) -> Line
     requires { ⌜ (start ≤ length (now markdown)) × ((have ≤ start) × (length (now markdown) ≤ length (now work))) ⌝ }
     ensures { λ r. ⌜ CommentedIs (now (markdown .entry)) start have (now (work .entry)) (now (work .exit)) r ⌝ }
@@ -89,7 +77,7 @@ fn commented(markdown: &[u8], start: usize, have: usize, work: &mut [u8]) -> Lin
                 next: j + 1,
             };
         }
-        if opens(markdown, j) {
+        if stands_at(markdown, j, b"<!--") {
             j = past_comment(markdown, j);
             continue;
         }
@@ -121,7 +109,7 @@ pub(crate) fn next_line(markdown: &[u8], i: usize, work: &mut [u8]) -> Line
                 next: j + 1,
             };
         }
-        if opens(markdown, j) {
+        if stands_at(markdown, j, b"<!--") {
             records::writer::put_bytes(work, 0, &markdown[i..j]);
             return commented(markdown, j, j - i, work);
         }

@@ -1,27 +1,29 @@
 // What each line does to the reader's state.
-ghost use Prim.Native.Nat.{_+_, _-_, _≤_, _<_};
+ghost use Prim.Native.Nat.{_+_, _*_, _-_, _≤_, _<_};
 ghost use mathlib.Core.Path.{_≡_};
-ghost use mathlib.Core.Bool.{true, _&&_};
+ghost use mathlib.Core.Bool.{_&&_};
 ghost use mathlib.Core.List.{List};
 ghost use Prim.Native.Nat.{ℕ};
 ghost use lib.Dec.{eqb};
 ghost use lib.ListN.{length};
-ghost use lib.Seq.{sets};
-ghost use Rattle.text.specs.Words.{all};
-ghost use Rattle.text.specs.Chars.{is-digit};
 ghost use Rattle.text.specs.Utf8.{chars, Scalars};
-ghost use Rattle.records.specs.Blocks.{Heading, Paragraph, Item};
+ghost use Rattle.records.specs.Blocks.{Paragraph, Item};
 ghost use Rattle.spans.specs.Spans.{spans};
-ghost use Rattle.markdown.specs.Blocks.{added, row, paragraph, read-line};
+ghost use Rattle.markdown.specs.Blocks.{added, row, heading, paragraph, read-text, read-line};
+ghost use Rattle.markdown.specs.Cells.{RowMade};
 ghost use Rattle.markdown.specs.Parts.{part, text-of};
-ghost use Rattle.markdown.specs.Shape.{mark, wrapped};
+ghost use Rattle.markdown.specs.Shape.{mark, MarkerAt};
 ghost use Rattle.markdown.specs.State.{Safe, Given, LineGiven, Owned, Steps, grown, ends, starts-with-text};
 use crate::lines::Line;
 use crate::lines::put_text;
 use crate::lines::text_of;
 use crate::rows::put_row;
-use crate::shape::Class;
-use crate::shape::classify;
+use crate::shape::Marker;
+use crate::shape::Range;
+use crate::shape::Title;
+use crate::shape::heading;
+use crate::shape::is_rule;
+use crate::shape::list_marker;
 use crate::shape::trimmed;
 use crate::writer::State;
 use crate::writer::continue_item;
@@ -47,46 +49,25 @@ pub(crate) fn flush<'a>(markdown: &'a [u8], work: &'a [u8], out: &mut [u8], s: S
     }
 }
 
-fn heading_line<'a>(
-    markdown: &'a [u8],
-    work: &'a [u8],
-    out: &mut [u8],
-    s: State,
-    level: usize,
-    copied: bool,
-    from: usize,
-    to: usize,
-) -> State
-    requires { ⌜ Given (now markdown) (now work) s from to × (level ≤ 3) ⌝ }
-    ensures { λ r. ⌜ Steps (now (markdown .entry)) (now (work .entry)) (now (work .entry)) (now (out .entry)) (now (out .exit)) s r 800000 0
-        (added (Heading level (spans (chars (text-of (now (markdown .entry)) (now (work .entry)) copied from to))))) ⌝ }
-{
-    let p = flush(markdown, work, out, s);
-    put_heading(text_of(markdown, work, copied, from, to), out, p, level)
-}
-
+// An item: its digits, if it has any, and its text are parts of the line.
 fn item_line<'a>(
     markdown: &'a [u8],
     work: &'a [u8],
     out: &mut [u8],
     s: State,
+    line: &'a [u8],
     depth: usize,
-    copied: bool,
     at: usize,
     stop: usize,
     from: usize,
     to: usize,
 ) -> State
-    requires { ⌜ Given (now markdown) (now work) s from to × (Given (now markdown) (now work) s at stop × ((stop ≤ at + 9)
-        × (all is-digit (text-of (now markdown) (now work) copied at stop) ≡ true))) ⌝ }
+    requires { ⌜ (Safe (now markdown) (now work) s × (s .at ≤ 300000000000)) × ((length (now line) ≤ 65536) × MarkerAt (now line) depth at stop from to) ⌝ }
     ensures { λ r. ⌜ Steps (now (markdown .entry)) (now (work .entry)) (now (work .entry)) (now (out .entry)) (now (out .exit)) s r 800000 0
-        (added (Item depth (mark (text-of (now (markdown .entry)) (now (work .entry)) copied at stop))
-        (spans (chars (text-of (now (markdown .entry)) (now (work .entry)) copied from to))))) ⌝ }
+        (added (Item depth (mark (part (now (line .entry)) at stop)) (spans (chars (part (now (line .entry)) from to))))) ⌝ }
 {
     let p = flush(markdown, work, out, s);
-    let digits = text_of(markdown, work, copied, at, stop);
-    let text = text_of(markdown, work, copied, from, to);
-    put_item(digits, text, out, p, depth)
+    put_item(&line[at..stop], &line[from..to], out, p, depth)
 }
 
 // A new paragraph of one line: a part of the Markdown itself, or a copy of the line in the work buffer.
@@ -117,6 +98,28 @@ fn open_paragraph(
         from,
         to,
         ..s
+    }
+}
+
+// A line that starts with `#`: a heading, or the first line of a paragraph.
+fn hash_line(
+    markdown: &[u8],
+    work: &mut [u8],
+    out: &mut [u8],
+    s: State,
+    copied: bool,
+    from: usize,
+    to: usize,
+) -> State
+    requires { ⌜ Given (now markdown) (now work) s from to × (s .at ≤ 274877906944) ⌝ }
+    ensures { λ r. ⌜ Steps (now (markdown .entry)) (now (work .entry)) (now (work .exit)) (now (out .entry)) (now (out .exit)) s r 800000 (to - from)
+        (heading (chars (text-of (now (markdown .entry)) (now (work .entry)) copied from to))) ⌝ }
+{
+    let p = flush(markdown, work, out, s);
+    let line = text_of(markdown, work, copied, from, to);
+    match heading(line) {
+        Title::Named(level, a, b) => put_heading(&line[a..b], out, p, level),
+        Title::Plain => open_paragraph(markdown, work, p, copied, from, to),
     }
 }
 
@@ -177,7 +180,20 @@ fn add_text(
     join_paragraph(markdown, work, s, copied, from, to)
 }
 
-// A row of a table: it is made in the third part of the work buffer.
+// The row of a table, made in the third part of the work buffer: where it starts and ends there.
+fn make_row(markdown: &[u8], work: &mut [u8], copied: bool, from: usize, to: usize) -> Range
+    requires { ⌜ ((from ≤ to) × (to ≤ length (now markdown))) × ((6 * length (now markdown) ≤ length (now work))
+        × Scalars (chars (text-of (now markdown) (now work) copied from to))) ⌝ }
+    ensures { λ r. ⌜ RowMade (now (markdown .entry)) (now (work .entry)) (now (work .exit)) copied from to r ⌝ }
+{
+    let n = markdown.len();
+    put_text(markdown, work, copied, from, to, n);
+    let at = n + n;
+    let end = put_row(work, n, n + (to - from), at);
+    trimmed(work, at, end)
+}
+
+// A row of a table.
 fn row_line(
     markdown: &[u8],
     work: &mut [u8],
@@ -192,25 +208,21 @@ fn row_line(
         (added (Paragraph (spans (row (chars (text-of (now (markdown .entry)) (now (work .entry)) copied from to)))))) ⌝ }
 {
     let p = flush(markdown, work, out, s);
-    let n = markdown.len();
-    put_text(markdown, work, copied, from, to, n);
-    let at = n + n;
-    let end = put_row(work, n, n + (to - from), at);
-    let t = trimmed(work, at, end);
+    let t = make_row(markdown, work, copied, from, to);
     let a = t.from;
     let b = t.to;
     put_paragraph(&work[a..b], out, p)
 }
 
-// Whether an indented line continues the last item.
-fn goes_on(s: State) -> bool
-    ensures { λ r. ⌜ r ≡ s .item && eqb (s .from) (s .to) ⌝ }
+// Whether a line continues the last item.
+fn goes_on(s: State, indented: bool) -> bool
+    ensures { λ r. ⌜ r ≡ indented && (s .item && eqb (s .from) (s .to)) ⌝ }
 {
-    s.item & (s.from == s.to)
+    indented & (s.item & (s.from == s.to))
 }
 
-// An indented line: more of the last item, or of a paragraph.
-fn wrapped_line(
+// A line that neither starts with `#` nor has a list marker.
+fn text_line(
     markdown: &[u8],
     work: &mut [u8],
     out: &mut [u8],
@@ -218,14 +230,22 @@ fn wrapped_line(
     copied: bool,
     from: usize,
     to: usize,
+    indented: bool,
 ) -> State
-    requires { ⌜ Given (now markdown) (now work) s from to × (grown s + (to - from) ≤ length (now markdown)) ⌝ }
-    ensures { λ r. ⌜ Steps (now (markdown .entry)) (now (work .entry)) (now (work .exit)) (now (out .entry)) (now (out .exit)) s r 400000 (grown s + (to - from))
-        (wrapped (chars (text-of (now (markdown .entry)) (now (work .entry)) copied from to))) ⌝ }
+    requires { ⌜ Given (now markdown) (now work) s from to × ((from < to) × ((grown s + (to - from) ≤ length (now markdown))
+        × Scalars (chars (text-of (now markdown) (now work) copied from to)))) ⌝ }
+    ensures { λ r. ⌜ Steps (now (markdown .entry)) (now (work .entry)) (now (work .exit)) (now (out .entry)) (now (out .exit)) s r 2000000 (grown s + (to - from))
+        (λ q. read-text q indented (chars (text-of (now (markdown .entry)) (now (work .entry)) copied from to))) ⌝ }
 {
-    if goes_on(s) {
-        let text = text_of(markdown, work, copied, from, to);
-        return continue_item(text, out, s);
+    let line = text_of(markdown, work, copied, from, to);
+    if is_rule(line) {
+        return flush(markdown, work, out, s);
+    }
+    if line[0] == b'|' {
+        return row_line(markdown, work, out, s, copied, from, to);
+    }
+    if goes_on(s, indented) {
+        return continue_item(line, out, s);
     }
     add_text(markdown, work, s, copied, from, to)
 }
@@ -237,33 +257,24 @@ pub(crate) fn read_line(md: &[u8], work: &mut [u8], out: &mut [u8], s: State, li
         (λ q. read-line q (chars (text-of (now (md .entry)) (now (work .entry)) (line .copied) (line .from) (line .to)))) ⌝ }
 {
     let copied = line.copied;
-    let at = line.from;
-    let class = classify(text_of(md, work, copied, at, line.to));
-    match class {
-        Class::Ends => flush(md, work, out, s),
-        Class::Headed(level, from, to) => {
-            heading_line(md, work, out, s, level, copied, at + from, at + to)
+    let text = text_of(md, work, copied, line.from, line.to);
+    let t = trimmed(text, 0, text.len());
+    let a = t.from;
+    if a == t.to {
+        return flush(md, work, out, s);
+    }
+    let from = line.from + a;
+    let to = line.from + t.to;
+    if text[a] == b'#' {
+        return hash_line(md, work, out, s, copied, from, to);
+    }
+    match list_marker(text) {
+        Marker::At(depth, at, stop, start, end) => {
+            item_line(md, work, out, s, text, depth, at, stop, start, end)
         }
-        Class::Opens(from, to) => {
-            let p = flush(md, work, out, s);
-            open_paragraph(md, work, p, copied, at + from, at + to)
+        Marker::Unmarked => {
+            let indented = text[0] == b' ';
+            text_line(md, work, out, s, copied, from, to, indented)
         }
-        Class::Listed(depth, first, stop, from, to) => {
-            item_line(
-                md,
-                work,
-                out,
-                s,
-                depth,
-                copied,
-                at + first,
-                at + stop,
-                at + from,
-                at + to,
-            )
-        }
-        Class::Row(from, to) => row_line(md, work, out, s, copied, at + from, at + to),
-        Class::Wrapped(from, to) => { wrapped_line(md, work, out, s, copied, at + from, at + to) }
-        Class::Text(from, to) => add_text(md, work, s, copied, at + from, at + to),
     }
 }

@@ -2,12 +2,13 @@
 ghost use Prim.Native.Nat.{_+_, _-_, _*_, _≤_};
 ghost use mathlib.Core.Path.{_≡_};
 ghost use lib.ListN.{length, take};
-ghost use Rattle.text.specs.Words.{starts, trim-end-matches};
+ghost use Rattle.text.specs.Words.{trim-end-matches};
 ghost use Rattle.markdown.specs.Parts.{part};
-ghost use Rattle.markdown.specs.Cells.{dot-bytes, CellsIs, RowIs};
+ghost use Rattle.markdown.specs.Cells.{bar-size, dot-bytes, CellsIs, RowIs};
 ghost use Rattle.text.specs.Utf8.{chars, Scalars};
 ghost use lib.Seq.{sets};
 ghost use lib.Dec.{eqb};
+use crate::lines::stands_at;
 use crate::shape::run_of;
 
 // Where s ends without the bytes b at its end.
@@ -25,17 +26,17 @@ fn run_end(s: &[u8], b: u8) -> usize
     e
 }
 
-// Whether ` | ` stands at the start.
-fn is_spaced(s: &[u8]) -> bool
-    ensures { λ r. ⌜ r ≡ starts " | " (now (s .entry)) ⌝ }
+// How long the ` | `, or the other `|`, is that s starts with; 0 where there is none.
+fn bar_of(s: &[u8]) -> usize
+    ensures { λ r. ⌜ r ≡ bar-size (now (s .entry)) ⌝ }
 {
-    if s.len() == 0 {
-        return false;
+    if stands_at(s, 0, b" | ") {
+        return 3;
     }
-    if s[0] != b' ' {
-        return false;
+    if stands_at(s, 0, b"|") {
+        return 1;
     }
-    text::starts_with(s, 0, b" | ")
+    0
 }
 
 // Stores ` · `.
@@ -53,22 +54,16 @@ fn put_cells(work: &mut [u8], a: usize, b: usize, at: usize) -> usize
     let mut i = a;
     let mut k = at;
     while i < b {
-        if is_spaced(&work[i..b]) {
-            put_dot(work, k);
-            i += 3;
-            k += 4;
-            continue;
-        }
-        let c = work[i];
-        if c == b'|' {
-            put_dot(work, k);
+        let n = bar_of(&work[i..b]);
+        if n == 0 {
+            work[k] = work[i];
             i += 1;
-            k += 4;
+            k += 1;
             continue;
         }
-        work[k] = c;
-        i += 1;
-        k += 1;
+        put_dot(work, k);
+        i += n;
+        k += 4;
     }
     k
 }

@@ -1,14 +1,15 @@
-// The shape of a line: heading, item, rule, row or text.
+// The shape of a line: a heading, an item or a rule.
 ghost use Prim.Native.Nat.{_+_, _-_, _*_};
 ghost use mathlib.Core.Path.{_≡_};
-ghost use mathlib.Core.Bool.{_||_};
+ghost use mathlib.Core.Bool.{false, _||_};
 ghost use lib.ListN.{length, drop};
 ghost use Rattle.text.specs.Words.{starts, matches, take-while};
 ghost use Rattle.markdown.specs.Parts.{Inside};
-ghost use Rattle.markdown.specs.Shape.{Trimmed, TitleIs, MarkerIs, Bare, Says};
+ghost use Rattle.markdown.specs.Shape.{Trimmed, TitleIs, MarkerIs};
 ghost use Rattle.markdown.specs.Blocks.{is-rule};
 ghost use Rattle.text.specs.Chars.{is-digit};
 ghost use Rattle.text.specs.Utf8.{chars};
+ghost use Rattle.text.specs.Trim.{start-of};
 ghost use lib.Dec.{eqb};
 
 // Where a part starts and ends.
@@ -76,7 +77,7 @@ fn is_ruled(b: u8) -> bool
 }
 
 // Whether a trimmed line is a rule.
-fn is_rule(line: &[u8]) -> bool
+pub(crate) fn is_rule(line: &[u8]) -> bool
     ensures { λ r. ⌜ r ≡ is-rule (chars (now (line .entry))) ⌝ }
 {
     if line.len() < 3 {
@@ -102,7 +103,7 @@ pub enum Title {
     Plain,
 }
 
-fn heading(line: &[u8]) -> Title
+pub(crate) fn heading(line: &[u8]) -> Title
     ensures { λ r. ⌜ TitleIs (now (line .entry)) r ⌝ }
 {
     let level = run_of(line, b'#');
@@ -134,14 +135,11 @@ fn is_bullet(line: &[u8], i: usize) -> bool
         | text::starts_with(line, i, b"+ ")
 }
 
-fn list_marker(line: &[u8]) -> Marker
+// A marker of digits, where the line's text starts.
+fn ordered_marker(line: &[u8], at: usize) -> Marker
+    requires { ⌜ (at ≡ start-of (now line)) × (starts "- " (drop at (now line)) || starts "* " (drop at (now line)) || starts "+ " (drop at (now line)) ≡ false) ⌝ }
     ensures { λ r. ⌜ MarkerIs (now (line .entry)) r ⌝ }
 {
-    let at = text::start_of(line);
-    if is_bullet(line, at) {
-        let t = trimmed(line, at + 2, line.len());
-        return Marker::At(at / 2, at, at, t.from, t.to);
-    }
     let n = digits_of(&line[at..]);
     if n == 0 {
         return Marker::Unmarked;
@@ -157,58 +155,13 @@ fn list_marker(line: &[u8]) -> Marker
     Marker::At(at / 2, at, stop, t.from, t.to)
 }
 
-// What a line is to the reader, and which part of it counts.
-pub enum Class {
-    // A blank line or a rule.
-    Ends,
-    // A heading, with its level.
-    Headed(usize, usize, usize),
-    // A line that starts with `#` and is no heading: it opens a paragraph.
-    Opens(usize, usize),
-    // An item: its depth, where its digits start and end, and its text.
-    Listed(usize, usize, usize, usize, usize),
-    // A row of a table.
-    Row(usize, usize),
-    // An indented line of text.
-    Wrapped(usize, usize),
-    // Any other line of text.
-    Text(usize, usize),
-}
-
-// A line that neither starts with `#` nor has a list marker; its trimmed part is from a to b.
-fn unmarked(line: &[u8], a: usize, b: usize) -> Class
-    requires { ⌜ Bare (now line) a b ⌝ }
-    ensures { λ r. ⌜ Says (now (line .entry)) r ⌝ }
+pub(crate) fn list_marker(line: &[u8]) -> Marker
+    ensures { λ r. ⌜ MarkerIs (now (line .entry)) r ⌝ }
 {
-    if is_rule(&line[a..b]) {
-        return Class::Ends;
+    let at = text::start_of(line);
+    if is_bullet(line, at) {
+        let t = trimmed(line, at + 2, line.len());
+        return Marker::At(at / 2, at, at, t.from, t.to);
     }
-    if line[a] == b'|' {
-        return Class::Row(a, b);
-    }
-    if line[0] == b' ' {
-        return Class::Wrapped(a, b);
-    }
-    Class::Text(a, b)
-}
-
-pub(crate) fn classify(line: &[u8]) -> Class
-    ensures { λ r. ⌜ Says (now (line .entry)) r ⌝ }
-{
-    let t = trimmed(line, 0, line.len());
-    let a = t.from;
-    let b = t.to;
-    if a == b {
-        return Class::Ends;
-    }
-    if line[a] == b'#' {
-        let Title::Named(level, from, to) = heading(&line[a..b]) else {
-            return Class::Opens(a, b);
-        };
-        return Class::Headed(level, a + from, a + to);
-    }
-    match list_marker(line) {
-        Marker::At(depth, at, stop, from, to) => Class::Listed(depth, at, stop, from, to),
-        Marker::Unmarked => unmarked(line, a, b),
-    }
+    ordered_marker(line, at)
 }

@@ -1,17 +1,17 @@
 // The records of blocks, stored where the reader stands.
-ghost use Prim.Native.Nat.{_+_, _≤_, _<_};
+ghost use Prim.Native.Nat.{ℕ, _+_, _≤_, _<_};
 ghost use mathlib.Core.Path.{_≡_};
 ghost use mathlib.Core.Bool.{true};
-ghost use mathlib.Core.List.{_∷_};
+ghost use mathlib.Core.List.{List, _∷_};
 ghost use lib.ListN.{length};
 ghost use lib.Seq.{sets};
 ghost use Rattle.text.specs.Words.{all};
 ghost use Rattle.text.specs.Chars.{is-digit};
 ghost use Rattle.text.specs.Utf8.{chars, size, encode};
 ghost use Rattle.records.specs.Blocks.{Heading, Paragraph, Item, item};
-ghost use Rattle.records.specs.Format.{encode-block, encode-kind};
+ghost use Rattle.records.specs.Format.{kind-bits, encode-block, encode-kind};
 ghost use Rattle.spans.specs.Spans.{spans};
-ghost use Rattle.markdown.specs.Shape.{mark, item-bits};
+ghost use Rattle.markdown.specs.Shape.{mark};
 ghost use Rattle.markdown.specs.State.{fresh, SpansPut, plain-after, item-after, span-start, continued-after, space-bytes, continued-out};
 use spans::Written;
 
@@ -125,7 +125,7 @@ fn put_fields(digits: &[u8], out: &mut [u8], at: usize, depth: usize) -> usize
 
 // An item's map byte without the bit of its span count.
 fn item_map(depth: usize) -> u8
-    ensures { λ r. ⌜ r ≡ item-bits depth ⌝ }
+    ensures { λ r. ⌜ ((marker : List ℕ) → r ≡ kind-bits (item depth marker)) ⌝ }
 {
     if depth == 0 {
         return 4;

@@ -10,14 +10,15 @@ use mathlib.Core.List.{List, [], _∷_, _++_}
 use borrow.Author.Tests.{eqb-true, le-leb}
 use lib.Dec.{eqb}
 use lib.ListN.{length, length-append}
-use Rattle.text.specs.Words.{str}
+use Rattle.text.specs.Words.{str, _>>=_, ensure}
 use Rattle.text.specs.Chars.{is-space, is-control}
 use Rattle.text.proofs.Tests.{false-true}
-use Rattle.sheet.specs.Reading.{guard, _<|>_, strip, many}
+use Rattle.sheet.specs.Reading.{_<|>_, strip, many}
 use Rattle.sheet.specs.Tree.{Kind, plain, strong, em, both, code, Run, run, Mark, ul, ol, Items, Item, Block, heading, list}
 use Rattle.sheet.specs.Grammar as G
 use Rattle.sheet.specs.Grammar.{NL, Char, Many, stop, more, Text, IsRun, is-run, Line, ThenNL, IsItem, is-alone, is-with, ListOf, IsList, IsBlock, is-heading, is-para, IsPage, shown, singles, first-is, fits, apart, opens, closes, opens-h, closes-h, before, after}
-use Rattle.sheet.specs.Reader.{Answer, nl?, own, char, text, opening, kind, one-run, line, then-nl, item, marked, list-of, read-list, digit, headed, read-heading, read-para, block, read-page}
+use Rattle.sheet.specs.Reader.{Answer, nl?, own, char, text, opening, kind, one-run, line, then-nl, item, marked, list-of, read-list, digit, headed, read-heading, read-para, block, read-page, referred}
+use Rattle.sheet.proofs.Facts.{false-true}
 use Rattle.sheet.proofs.Conditions.{neat-of, apart-rest}
 use Rattle.sheet.proofs.ReadingLaws.{alt-left, alt-right, strip-append, front, many-stop, many-more}
 use Rattle.sheet.proofs.Sound.{Listed}
@@ -30,7 +31,7 @@ unfolding own
 own-complete c s f = rw f
 
 char-complete : {s q r : List ℕ} → Char s q r → char s ≡ some (q, r)
-unfolding char own shown is-control is-space
+unfolding char referred own shown is-control is-space
 char-complete G.&lt = refl
 char-complete G.&amp = refl
 char-complete G.&gt = refl
@@ -48,7 +49,7 @@ no-tag G.&quot p = refl
 no-tag G.blank p = refl
 no-tag (G.own {s} c f) p = on (eqb 60 c) refl
   where
-    on : (t : Bool) → eqb 60 c ≡ t → guard t (strip p s) ≡ none
+    on : (t : Bool) → eqb 60 c ≡ t → (ensure t >>= λ _. strip p s) ≡ none
     on false g = refl
     on true g = false-true (subst (λ (c : ℕ). shown c ≡ true) (sym (eqb-true 60 c g)) f)
 
@@ -88,7 +89,7 @@ Follows both m = Unit {0}
 Follows code m = Unit {0}
 
 after-text : (k : Kind) (m : List ℕ) → Follows k m → char (after k ++ m) ≡ none
-unfolding char own shown is-control is-space
+unfolding char referred own shown is-control is-space
 after-text plain m h = h
 after-text strong m h = refl
 after-text em m h = refl
@@ -102,7 +103,7 @@ run-complete k {s} {t} {m} (G.text cs) f h =
     rw (kind-complete k s (no-tag (c .2)), text-complete (G.text cs) (after-text k m h), f, strip-append (after k) m)
 
 next : (k : Kind) (t : List ℕ) {m r : List ℕ} {rs : List Run} → Many IsRun m rs r → apart (run k t ∷ rs) ≡ true → char r ≡ none → Follows k m
-unfolding apart char own shown is-control is-space
+unfolding apart char referred own shown is-control is-space
 next plain u stop a e = e
 next plain u (more (is-run plain t f) rs) a e = false-true a
 next plain u (more (is-run strong t f) rs) a e = refl
@@ -165,7 +166,7 @@ record After (s r : List ℕ) : Type 0 where
   rest : nl? s ≡ r
 
 after-line : {s r : List ℕ} → NL s r → Opens r → After s r
-unfolding char own shown is-control is-space one-run kind text many fits singles first-is
+unfolding char referred own shown is-control is-space one-run kind text many fits singles first-is
 after-line G.no-nl (opened ul s) = record { ends = record { no-char = refl; no-run = refl }; not-closed = refl; rest = refl }
 after-line G.no-nl (opened ol s) = record { ends = record { no-char = refl; no-run = refl }; not-closed = refl; rest = refl }
 after-line G.nl (opened ul s) = record { ends = record { no-char = refl; no-run = refl }; not-closed = refl; rest = refl }
@@ -173,7 +174,7 @@ after-line G.nl (opened ol s) = record { ends = record { no-char = refl; no-run 
 
 -- a closing tag ends a line
 closing : (s : List ℕ) → Ends (60 ∷ 47 ∷ s)
-unfolding char own shown is-control is-space one-run kind text many fits singles first-is
+unfolding char referred own shown is-control is-space one-run kind text many fits singles first-is
 closing s = record { no-char = refl; no-run = refl }
 
 record ReadsLists (L : List ℕ → Mark → Items → List ℕ → Type 0) (read : List ℕ → Answer (Mark × Items)) : Type 0 where

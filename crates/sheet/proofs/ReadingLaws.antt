@@ -9,15 +9,16 @@ use mathlib.Core.Option.{Option, none, some}
 use mathlib.Core.List.{List, [], _∷_, _++_}
 use borrow.Author.Tests.{eqb-true, eq-eqb}
 use lib.Dec.{eqb}
-use Rattle.sheet.specs.Reading.{guard, _<|>_, strip, many}
+use Rattle.sheet.specs.Reading.{_<|>_, strip, many}
+use Rattle.text.specs.Words.{_>>=_, ensure}
 use Rattle.sheet.specs.Reader.{Answer}
 
 pub none-some : {A B : Type 0} {a : A} → _≡_ {A = Option A} none (some a) → B
 none-some e = let z : _≡_ {A = ℕ} 0 1 = cc in absurd (omega arith)
 
-pub guard-inv : {A : Type 0} (b : Bool) (o : Option A) {y : A} → guard b o ≡ some y → (b ≡ true) × (o ≡ some y)
-guard-inv true o e = (refl, e)
-guard-inv false o e = none-some e
+pub ensure-inv : {A : Type 0} (b : Bool) (o : Option A) {y : A} → (ensure b >>= λ _. o) ≡ some y → (b ≡ true) × (o ≡ some y)
+ensure-inv true o e = (refl, e)
+ensure-inv false o e = none-some e
 
 pub alt-inv : {A : Type 0} (o p : Option A) {y : A} → (o <|> p) ≡ some y → (o ≡ some y) ⊎ (p ≡ some y)
 alt-inv none p e = inr e
@@ -32,7 +33,7 @@ alt-right o p e = rw e
 pub strip-inv : (p s : List ℕ) {r : List ℕ} → strip p s ≡ some r → s ≡ p ++ r
 strip-inv [] s e = cc
 strip-inv (a ∷ p) [] e = none-some e
-strip-inv (a ∷ p) (b ∷ s) e = let g = guard-inv (eqb a b) (strip p s) e in cc (eqb-true a b (g .0), strip-inv p s (g .1))
+strip-inv (a ∷ p) (b ∷ s) e = let g = ensure-inv (eqb a b) (strip p s) e in cc (eqb-true a b (g .0), strip-inv p s (g .1))
 
 pub strip-append : (p r : List ℕ) → strip p (p ++ r) ≡ some r
 strip-append [] r = refl

@@ -12,10 +12,10 @@ use Rattle.sheet.specs.Reading.{_<|>_, strip, many}
 use Rattle.sheet.specs.Tree.{Kind, plain, strong, em, both, code, Run, Mark, ul, ol, Items, Item, alone, items, Block, list}
 use Rattle.sheet.specs.Grammar as G
 use Rattle.sheet.specs.Grammar.{NL, Char, Many, stop, more, Text, IsRun, is-run, Line, ThenNL, IsItem, is-alone, is-with, ListOf, IsList, IsBlock, is-heading, is-para, IsPage, shown, fits, neat, opens, closes, closes-h, before, after}
-use Rattle.sheet.specs.Reader.{Answer, nl?, own, means, char, text, opening, kind, one-run, line, then-nl, with-list, item, some-items, marked, list-of, read-list, digit, headed, read-heading, read-para, block, at-end, read-page}
+use Rattle.sheet.specs.Reader.{Answer, nl?, own, means, referred, char, text, opening, kind, one-run, line, then-nl, with-list, item, some-items, marked, list-of, read-list, digit, headed, read-heading, read-para, block, at-end, read-page}
 use Rattle.text.specs.Chars.{within}
 use Rattle.text.proofs.Tests.{within-true, then-some}
-use Rattle.sheet.proofs.ReadingLaws.{none-some, guard-inv, alt-inv, strip-inv}
+use Rattle.sheet.proofs.ReadingLaws.{none-some, alt-inv, strip-inv, ensure-inv}
 
 -- a reader that reads what R says
 module _ {A : Type 0} where
@@ -51,11 +51,11 @@ own-sound : Sound Char own
 unfolding own
 own-sound [] y e = none-some e
 own-sound (c ∷ s) y e =
-    let g = guard-inv (shown c) _ e in
+    let g = ensure-inv (shown c) _ e in
     gives Char (g .1) (G.own c (g .0))
 
 pub char-sound : Sound Char char
-unfolding char
+unfolding char referred
 char-sound s y e =
     ⊎-elim (own-sound s y) (λ e. ⊎-elim (by " " " " (λ r. G.blank)) (λ e. ⊎-elim (by "<" "&lt;" (λ r. G.&lt)) (λ e. ⊎-elim (by "&" "&amp;" (λ r. G.&amp)) (λ e. ⊎-elim (by ">" "&gt;" (λ r. G.&gt)) (by "\"" "&quot;" (λ r. G.&quot)) (alt-inv (means ">" "&gt;" s) _ e)) (alt-inv (means "&" "&amp;" s) _ e)) (alt-inv (means "<" "&lt;" s) _ e)) (alt-inv (means " " " " s) _ e)) (alt-inv (own s) _ e)
   where
@@ -82,7 +82,7 @@ pub run-sound : Sound IsRun one-run
 unfolding one-run
 run-sound s y e =
     let k = then-some (kind s) _ e in
-    let g = guard-inv (fits (k .0 .0) (text (k .0 .1) .0)) _ (k .2) in
+    let g = ensure-inv (fits (k .0 .0) (text (k .0 .1) .0)) _ (k .2) in
     let a = then-some (strip (after (k .0 .0)) (text (k .0 .1) .1)) _ (g .1) in
     let t = subst (Text (k .0 .1) (text (k .0 .1) .0)) (strip-inv (after (k .0 .0)) (text (k .0 .1) .1) (a .1)) (text-sound (k .0 .1)) in
     gives IsRun (a .2) (from IsRun (kind-inv s (k .0) (k .1)) (is-run (k .0 .0) t (g .0)))
@@ -90,7 +90,7 @@ run-sound s y e =
 line-sound : Sound Line line
 unfolding line
 line-sound s y e =
-    let g = guard-inv (neat (many one-run (length s) s .0)) _ e in
+    let g = ensure-inv (neat (many one-run (length s) s .0)) _ e in
     gives Line (g .1) (G.line (many-sound IsRun one-run run-sound (length s) s) (g .0))
 
 pub then-nl-sound : {A : Type 0} (R : List ℕ → A → List ℕ → Type 0) (p : List ℕ → Answer A) → Sound R p → Sound (ThenNL R) (then-nl p)
@@ -162,7 +162,7 @@ heading-sound s y e =
     digit-inv : (s : List ℕ) (y : ℕ × List ℕ) → digit s ≡ some y → (1 ≤ y .0) × (y .0 ≤ 6) × (s ≡ (48 + y .0) ∷ y .1)
     digit-inv [] y e = none-some e
     digit-inv (b ∷ s) y e =
-        let g = guard-inv (within 49 54 b) _ e in
+        let g = ensure-inv (within 49 54 b) _ e in
         let h = within-true 49 54 b (g .0) in
         let z : (b - 48, s) ≡ y = cc (g .1) in
         let z₀ = ap (λ (y : ℕ × List ℕ). y .0) z in

@@ -7,22 +7,20 @@ use mathlib.Core.Bool.{true}
 use mathlib.Core.Option.{Option, none, some}
 use mathlib.Core.Logic.{_↔_}
 use mathlib.Core.List.{List}
-use borrow.Author.Tests.{lt-ltb, le-leb, ltb-true, leb-true}
-use lib.Dec.{ltb, leb}
 use lib.ListN.{length}
 use Rattle.text.specs.Words.{case}
 use Rattle.text.specs.Utf8.{Scalars, size, encode, decode}
-use Rattle.text.proofs.Tests.{and-true, then-some}
+use Rattle.text.proofs.Tests.{then-some}
 use Rattle.text.proofs.Laws.{decode-iff, decode-sound}
 use Rattle.sheet.specs.Tree.{Block}
 use Rattle.sheet.specs.Grammar.{IsPage}
 use Rattle.sheet.specs.Reader.{read-page}
 use Rattle.sheet.specs.Written.{written}
-use Rattle.sheet.specs.Sheet.{IsSheet}
-use Rattle.sheet.proofs.ReadingLaws.{none-some, guard-inv}
+use Rattle.sheet.specs.Sheet.{IsSheet, small}
+use Rattle.sheet.proofs.ReadingLaws.{none-some, ensure-inv}
 use Rattle.sheet.proofs.Sound.{page-sound}
 use Rattle.sheet.proofs.Complete.{page-complete}
-use Rattle.sheet.specs.Calls.{small, sheet, Tested, no-utf8, no-sheet, yes-sheet, sheet-call, number, counts}
+use Rattle.sheet.specs.Calls.{sheet, Tested, no-utf8, no-sheet, yes-sheet, sheet-call, number, counts}
 
 -- a page is a sheet, and these are the bytes and characters of its written form
 abbrev pub Counted : List ℕ → ℕ → ℕ → Type 0
@@ -37,7 +35,7 @@ pub sheet-sound : (s : List ℕ) (t : List Block) → sheet s ≡ some t → IsP
 unfolding sheet
 sheet-sound s t e =
     let b = then-some (read-page s) _ e in
-    let g = guard-inv (small (b .0)) _ (b .2) in
+    let g = ensure-inv (small (b .0)) _ (b .2) in
     let z : b .0 ≡ t = cc (g .1) in
     (page-sound s t (b .1 ∙ ap some z), ap small (sym z) ∙ g .0)
 
@@ -47,7 +45,7 @@ sheet-complete p h = rw (page-complete p, h)
 
 module _ (page : List ℕ) (b c : ℕ) where
   forth : sheet-call page ≡ yes-sheet b c → Counted page b c
-  unfolding sheet-call small
+  unfolding sheet-call
   forth e = go (decode page) refl e
     where
       held : (s : List ℕ) → decode page ≡ some s → (o : Option (List Block)) → sheet s ≡ o → case o no-sheet (λ t. yes-sheet (size (written t)) (length (written t))) ≡ yes-sheet b c → Counted page b c
@@ -55,23 +53,19 @@ module _ (page : List ℕ) (b c : ℕ) where
       held s d (some t) h f =
           let p = sheet-sound s t h in
           let u = decode-sound page s d in
-          let l = and-true (ltb (size (written t)) 16000) (leb (length (written t)) 8000) (p .1) in
           let x : size (written t) ≡ b = cc in
           let y : length (written t) ≡ c = cc in
-          let m = ltb-true (size (written t)) 16000 (l .0) in
-          let n = leb-true (length (written t)) 8000 (l .1) in
-          (t, record { html = s; scalars = u .0; encoded = u .1; grammar = p .0; bytes = m; characters = n }, x, y)
+          (t, record { html = s; scalars = u .0; encoded = u .1; grammar = p .0; short = p .1 }, x, y)
 
       go : (o : Option (List ℕ)) → decode page ≡ o → case o no-utf8 (λ s. case (sheet s) no-sheet (λ t. yes-sheet (size (written t)) (length (written t)))) ≡ yes-sheet b c → Counted page b c
       go none d f = let z : _≡_ {A = ℕ} 0 1 = cc in absurd (omega arith)
       go (some s) d f = held s d (sheet s) refl f
 
   back : Counted page b c → sheet-call page ≡ yes-sheet b c
-  unfolding sheet-call small
+  unfolding sheet-call
   back (t, h, x, y) =
       let d = decode-iff page (h .html) .1 (h .scalars, h .encoded) in
-      let k : small t ≡ true = rw (lt-ltb (size (written t)) 16000 (h .bytes), le-leb (length (written t)) 8000 (h .characters)) in
-      rw (d, sheet-complete (h .grammar) k, x, y)
+      rw (d, sheet-complete (h .grammar) (h .short), x, y)
 
   -- the test says yes with these counts exactly to these pages
   pub sheet-iff : (counts (sheet-call page) ≡ some (b, c)) ↔ Counted page b c

@@ -19,7 +19,7 @@ use Rattle.sheet.specs.Reader.{one-run, line}
 use Rattle.sheet.specs.Written.{escaped, sign, written-run, written-runs}
 use Rattle.sheet.specs.Weight.{weight, alike, added}
 use Rattle.sheet.specs.Says.{from, Says}
-use Rattle.sheet.specs.Keeps.{first-of, last-of, gist, coded, last-kind, runs-of, joined-by, neat-of}
+use Rattle.sheet.specs.Keeps.{first-of, last-of, gist, coded, last-kind, runs-of, joined-by}
 use Rattle.sheet.specs.declared.count.Count.{Count}
 use Rattle.sheet.specs.declared.count.Read.the-variants.{At, No}
 use Rattle.sheet.specs.declared.line.Kind.{Kind}
@@ -98,6 +98,10 @@ runs-snoc rs k t =
     (apart-snoc rs k t)
     (letter-snoc rs k t)
     (solid-snoc rs k t))
+
+-- what the code tests of a line's runs
+abbrev neat-of : Runs → Bool
+neat-of x = x .apart && x .letter && x .solid
 
 pub neat-is : (rs : List Run) → neat-of (runs-of rs) ≡ neat rs
 unfolding runs-of neat

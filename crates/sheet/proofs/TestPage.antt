@@ -10,11 +10,11 @@ use mathlib.Core.List.{List, [], _∷_, _++_, append-nil, append-assoc}
 use borrow.Author.Tests.{lt-ltb, le-ltb, le-leb, lt-leb, ltb-true, ltb-false, leb-true, leb-false}
 use lib.Dec.{ltb, leb}
 use lib.ListN.{length}
-use Rattle.text.specs.Words.{str, case}
+use Rattle.text.specs.Words.{str, _>>=_, ensure, case}
 use Rattle.text.specs.Utf8.{size, is-utf8}
 use Rattle.text.proofs.Tests.{decide}
 use Rattle.text.proofs.Laws.{decode-true, decode-false, turn-is, advance-end, size-append}
-use Rattle.sheet.specs.Reading.{guard, many}
+use Rattle.sheet.specs.Reading.{many}
 use Rattle.sheet.specs.Tree.{Block}
 use Rattle.sheet.specs.Reader.{nl?, then-nl, block, at-end, read-page}
 use Rattle.sheet.specs.Written.{joined, written}
@@ -22,6 +22,7 @@ use Rattle.sheet.specs.Weight.{weight, alike, added, judged}
 use Rattle.sheet.specs.Says.{from, Skipped}
 use Rattle.sheet.specs.Forms.{block-form}
 use Rattle.sheet.specs.Calls.{small, sheet, Tested, no-utf8, no-sheet, yes-sheet, sheet-call, answer}
+use Rattle.sheet.specs.Sheet.{small}
 use Rattle.sheet.specs.declared.count.Count.{Count}
 use Rattle.sheet.specs.declared.Verdict.the-variants.{Yes, No}
 use Rattle.sheet.proofs.TestCount.{weight-append, size-ascii}
@@ -108,7 +109,7 @@ module _ (bs : List Block) {w : Count} (e : w ≡ weight (led bs)) where
       (λ h. omega arith, λ h. omega arith)
 
   abbrev told : Tested
-  told = case (guard (small bs) (some bs)) no-sheet (λ t. yes-sheet (size (written t)) (length (written t)))
+  told = case (ensure (small bs) >>= λ _. some bs) no-sheet (λ t. yes-sheet (size (written t)) (length (written t)))
 
   judge-yes : w .bytes - 2 < 16000 → w .chars - 2 ≤ 8000 → answer (judged w) ≡ told
   unfolding small

@@ -17,9 +17,9 @@ use Rattle.text.proofs.Tests.{decide}
 use Rattle.text.proofs.Laws.{turn-is, advance-end}
 use Rattle.sheet.specs.Reading.{strip}
 use Rattle.sheet.specs.Grammar.{shown}
-use Rattle.sheet.specs.Reader.{Answer, own, char, text}
+use Rattle.sheet.specs.Reader.{Answer, own, referred, char, text}
 use Rattle.sheet.specs.Says.{from}
-use Rattle.sheet.specs.Keeps.{referred, Spelt}
+use Rattle.sheet.specs.Keeps.{Spelt}
 use Rattle.sheet.specs.declared.line.Glyph.{Glyph}
 use Rattle.sheet.specs.declared.line.Glyph.the-variants as G
 use Rattle.sheet.proofs.Shrinks.{char-shrinks}
@@ -82,11 +82,11 @@ module _ (page : List ℕ) (at : ℕ) where
   unspelt o e = subst (λ (o : Answer (List ℕ)). Spelt page at o G.No) (sym e) refl
 
   pub char-end : length page ≤ at → char (from page at) ≡ none
-  unfolding char own
+  unfolding char referred own
   char-end h = rw (advance-end page at h)
 
   pub char-own : at < length page → shown (code-at page at) ≡ true → char (from page at) ≡ some (code-at page at ∷ [], from page (at + length (utf8 (code-at page at))))
-  unfolding char own
+  unfolding char referred own
   char-own l h = rw (turn-is page at l .rest, h)
 
   pub not-own : at < length page → shown (code-at page at) ≡ false → own (from page at) ≡ none

@@ -27,37 +27,37 @@ use Rattle.sheet.proofs.EachLine.{Entries, Lines, a-heading, a-para, a-
 use Rattle.sheet.proofs.EachLine as E
 
 -- ---- no byte 10 is written in a row
-abbrev pub inline : ℕ → Bool
-inline c = not (eqb c 10)
+abbrev pub not-break : ℕ → Bool
+not-break c = not (eqb c 10)
 
-inked-inline : (x : ℕ) → inked x ≡ true → inline x ≡ true
+inked-not-break : (x : ℕ) → inked x ≡ true → not-break x ≡ true
 unfolding is-space
-inked-inline x e = go (eqb x 32) refl e
+inked-not-break x e = go (eqb x 32) refl e
   where
-    go : (b : Bool) → eqb x 32 ≡ b → (b || not (is-space x)) ≡ true → inline x ≡ true
-    go true f h = ap inline (eqb-true x 32 f)
+    go : (b : Bool) → eqb x 32 ≡ b → (b || not (is-space x)) ≡ true → not-break x ≡ true
+    go true f h = ap not-break (eqb-true x 32 f)
     go false f h = ap not (no-space x 10 refl (not-true (is-space x) h))
 
-digit-inline : (c : ℕ) → is-digit c ≡ true → inline c ≡ true
-digit-inline c e = let f = within-true 48 57 c e in ap not (ne-eqb c 10 (λ e. omega arith))
+digit-not-break : (c : ℕ) → is-digit c ≡ true → not-break c ≡ true
+digit-not-break c e = let f = within-true 48 57 c e in ap not (ne-eqb c 10 (λ e. omega arith))
 
-inline-marks : Marks inline
-inline-marks =
-    record { backslash = refl; star = refl; tick = refl; hash = refl; blank = refl; dash = refl; point = refl; digit = digit-inline }
+not-break-marks : Marks not-break
+not-break-marks =
+    record { backslash = refl; star = refl; tick = refl; hash = refl; blank = refl; dash = refl; point = refl; digit = digit-not-break }
 
-inline-runs : {s r : List ℕ} {rs : List Run} → Many IsRun s rs r → all inline (written-runs rs) ≡ true
+not-break-runs : {s r : List ℕ} {rs : List Run} → Many IsRun s rs r → all not-break (written-runs rs) ≡ true
 unfolding written-runs
-inline-runs stop = refl
-inline-runs (more {xs = rs} (is-run {t = t} k (G.text m) f) ms) =
-    all-append inline (written-run (run k t)) (written-runs rs)
-    (all-run inline inline-marks k t (all-weaker inked inline inked-inline t (inked-text m)))
-    (inline-runs ms)
+not-break-runs stop = refl
+not-break-runs (more {xs = rs} (is-run {t = t} k (G.text m) f) ms) =
+    all-append not-break (written-run (run k t)) (written-runs rs)
+    (all-run not-break not-break-marks k t (all-weaker inked not-break inked-not-break t (inked-text m)))
+    (not-break-runs ms)
 
 -- ---- what the reader needs of a line's runs
 pub record GoodRuns (l : List Run) : Type 0 where
   pub good : Good (written-runs l)
   pub spans-are : spans (written-runs l) ≡ map span l
-  pub no-nl : all inline (written-runs l) ≡ true
+  pub no-nl : all not-break (written-runs l) ≡ true
   pub fit : all-fit l ≡ true
 
 fit-of : {s r : List ℕ} {rs : List Run} → Many IsRun s rs r → all-fit rs ≡ true
@@ -70,30 +70,30 @@ good-runs {l = l} (G.line m f) =
     record {
       good = good-of (G.line m f);
       spans-are = line-read l (neat-of l f .parted) (fit-of m);
-      no-nl = inline-runs m;
+      no-nl = not-break-runs m;
       fit = fit-of m;
     }
 
 -- ---- `lines`
-lines-nl : (s t : List ℕ) → all inline s ≡ true → lines (s ++ (10 ∷ t)) ≡ s ∷ lines t
+lines-nl : (s t : List ℕ) → all not-break s ≡ true → lines (s ++ (10 ∷ t)) ≡ s ∷ lines t
 unfolding lines
 lines-nl [] t e = refl
 lines-nl (c ∷ s) t e =
-    let f = and-true (inline c) (all inline s) e in
+    let f = and-true (not-break c) (all not-break s) e in
     rw (not-true (eqb c 10) (f .0), lines-nl s t (f .1))
 
-lines-last : (a : ℕ) (s : List ℕ) → all inline (a ∷ s) ≡ true → lines (a ∷ s) ≡ (a ∷ s) ∷ []
+lines-last : (a : ℕ) (s : List ℕ) → all not-break (a ∷ s) ≡ true → lines (a ∷ s) ≡ (a ∷ s) ∷ []
 unfolding lines
-lines-last a [] e = rw (not-true (eqb a 10) (and-true (inline a) true e .0))
+lines-last a [] e = rw (not-true (eqb a 10) (and-true (not-break a) true e .0))
 lines-last a (b ∷ s) e =
-    let f = and-true (inline a) (all inline (b ∷ s)) e in
+    let f = and-true (not-break a) (all not-break (b ∷ s)) e in
     ap (λ (x : Bool). cond x ([] ∷ lines (b ∷ s)) (before-lines a (lines (b ∷ s)))) (not-true (eqb a 10) (f .0))
     ∙ ap (before-lines a) (lines-last b s (f .1))
 
 -- ---- rows are lines: not empty, with no byte 10
 pub record IsLine (s : List ℕ) : Type 0 where
   pub filled : is-empty s ≡ false
-  pub no-nl : all inline s ≡ true
+  pub no-nl : all not-break s ≡ true
 
 runs-line : {l : List Run} → GoodRuns l → IsLine (written-runs l)
 runs-line g = record { filled = front-empty (g .good .front); no-nl = g .no-nl }
@@ -106,12 +106,12 @@ item-line : (d n : ℕ) (l : List Run) → GoodRuns l → IsLine (written-row (i
 item-line d n l g =
     record {
       filled = filled-append (repeat d "  ") (lead n ++ written-runs l) (filled-append (lead n) (written-runs l) (front-empty (g .good .front)));
-      no-nl = all-item inline inline-marks d n l (g .no-nl);
+      no-nl = all-item not-break not-break-marks d n l (g .no-nl);
     }
 
 head-line : (n : ℕ) (l : List Run) → GoodRuns l → IsLine (written-row (head n l))
 head-line n l g =
-    record { filled = filled-append (repeat n "#") (32 ∷ written-runs l) refl; no-nl = all-head inline inline-marks n l (g .no-nl) }
+    record { filled = filled-append (repeat n "#") (32 ∷ written-runs l) refl; no-nl = all-head not-break not-break-marks n l (g .no-nl) }
 
 pub entry-rows : {rs : List Row} → Entries GoodRuns rs → Rows rs
 entry-rows E.none = none

@@ -1,27 +1,21 @@
 -- The sheet test as a call: document 01, "Sheet" and "Where each call says no".
 -- Assumes nothing.
 use Prim.Native.Nat.{ℕ}
-use mathlib.Core.Bool.{Bool, _&&_}
 use mathlib.Core.Option.{Option, none, some}
 use mathlib.Core.List.{List}
-use lib.Dec.{ltb, leb}
 use lib.ListN.{length}
-use Rattle.text.specs.Words.{_>>=_, case}
+use Rattle.text.specs.Words.{_>>=_, ensure, case}
 use Rattle.text.specs.Utf8.{size, decode}
-use Rattle.sheet.specs.Reading.{guard}
 use Rattle.sheet.specs.Tree.{Block}
 use Rattle.sheet.specs.Reader.{read-page}
 use Rattle.sheet.specs.Written.{written}
+use Rattle.sheet.specs.Sheet.{small}
 use Rattle.sheet.specs.declared.Verdict.{Verdict}
 use Rattle.sheet.specs.declared.Verdict.the-variants.{Yes, No, NotUtf8}
 
--- a sheet's written form has fewer than 16,000 bytes and at most 8,000 characters
-unfoldable pub small : List Block → Bool
-small t = ltb (size (written t)) 16000 && leb (length (written t)) 8000
-
 -- the tree of a sheet
 unfoldable pub sheet : List ℕ → Option (List Block)
-sheet s = read-page s >>= λ t. guard (small t) (some t)
+sheet s = read-page s >>= λ t. ensure (small t) >>= λ _. some t
 
 -- the test's answer: refusal 1, no, or yes with the bytes and the characters of the written form
 pub data Tested : Type 0 where

@@ -1,5 +1,5 @@
--- The grammar of a sheet: document 01, "Sheet", sentence by sentence; from the last definition, a page, up to the first, the tags, it is in the document's
--- order. `X s t r`: the characters s begin with an X, whose tree is t, and r follows it.
+-- The grammar of a sheet: document 01, "Sheet", sentence by sentence. Tags and NL? come first, as in the document; then each thing before those that it is a part
+-- of, from a character up to a page, where the document goes from a page down. `X s t r`: the characters s begin with an X, whose tree is t, and r follows it.
 -- Assumes nothing.
 use Prim.Native.Nat.{ℕ, zero, suc, _+_, _≤_}
 use mathlib.Core.Path.{_≡_}

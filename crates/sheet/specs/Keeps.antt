@@ -11,11 +11,10 @@ use Rattle.text.specs.Words.{if_then_else_}
 use Rattle.text.specs.Chars.{is-letter}
 use Rattle.html.specs.State.{special}
 use Rattle.records.specs.Format.{non-empty}
-use Rattle.sheet.specs.Reading.{_<|>_}
 use Rattle.sheet.specs.Tree as T
 use Rattle.sheet.specs.Tree.{Run, run}
 use Rattle.sheet.specs.Grammar.{singles, none-of, touch, apart, first-letter, last-no-blank, before}
-use Rattle.sheet.specs.Reader.{Answer, means, kind, text}
+use Rattle.sheet.specs.Reader.{Answer, kind, text}
 use Rattle.sheet.specs.Written.{escaped, sign, written-runs}
 use Rattle.sheet.specs.Weight.{weight, alike, added}
 use Rattle.sheet.specs.Says.{from, Past}
@@ -28,10 +27,6 @@ use Rattle.sheet.specs.declared.line.Kind.the-variants.{Plain, Strong, E
 use Rattle.sheet.specs.declared.line.OneRun.{OneRun}
 use Rattle.sheet.specs.declared.line.OneRun.the-variants as R
 use Rattle.sheet.specs.declared.line.Runs.{Runs}
-
--- byte 32, or a reference
-unfoldable pub referred : List ℕ → Answer (List ℕ)
-referred s = means " " " " s <|> means "<" "&lt;" s <|> means "&" "&amp;" s <|> means ">" "&gt;" s <|> means "\"" "&quot;" s
 
 -- a character of text: the one it stands for, and the offset after it
 abbrev pub Spelt : List ℕ → ℕ → Answer (List ℕ) → Glyph → Type 0
@@ -127,6 +122,3 @@ joined-by x k g = record {
   letter = if x .any then x .letter else is-letter (g .first);
   solid = not (eqb (g .last) 32);
 }
-
-abbrev pub neat-of : Runs → Bool
-neat-of x = x .apart && x .letter && x .solid

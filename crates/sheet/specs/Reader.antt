@@ -6,9 +6,9 @@ use mathlib.Core.Option.{Option, none, some}
 use mathlib.Core.List.{List, [], _∷_}
 use Prim.Native.String.{String}
 use lib.ListN.{length}
-use Rattle.text.specs.Words.{str, _>>=_, case}
+use Rattle.text.specs.Words.{str, _>>=_, ensure, case}
 use Rattle.text.specs.Chars.{within}
-use Rattle.sheet.specs.Reading.{guard, _<|>_, strip, many}
+use Rattle.sheet.specs.Reading.{_<|>_, strip, many}
 use Rattle.sheet.specs.Tree.{Kind, plain, strong, em, both, code, Run, run, Mark, ul, ol, Items, Item, alone, with, items, Block, heading, para, list}
 use Rattle.sheet.specs.Grammar.{opens, closes, closes-h, before, after, shown, concat, fits, neat}
 
@@ -21,19 +21,22 @@ nl? s = case (strip (str "\n") s) s (λ r. r)
 
 unfoldable pub own : List ℕ → Answer (List ℕ)
 own [] = none
-own (c ∷ s) = guard (shown c) (some (c ∷ [], s))
+own (c ∷ s) = ensure (shown c) >>= λ _. some (c ∷ [], s)
 
 abbrev pub means : String → String → List ℕ → Answer (List ℕ)
 means q p s = strip (str p) s >>= λ r. some (str q, r)
 
-unfoldable pub char : List ℕ → Answer (List ℕ)
-char s =
-    own s
-    <|> means " " " " s
+-- byte 32, or a reference
+unfoldable pub referred : List ℕ → Answer (List ℕ)
+referred s =
+    means " " " " s
     <|> means "<" "&lt;" s
     <|> means "&" "&amp;" s
     <|> means ">" "&gt;" s
     <|> means "\"" "&quot;" s
+
+unfoldable pub char : List ℕ → Answer (List ℕ)
+char s = own s <|> referred s
 
 unfoldable pub text : List ℕ → List ℕ × List ℕ
 text s = let x = many char (length s) s in (concat (x .0), x .1)
@@ -49,10 +52,12 @@ unfoldable pub one-run : List ℕ → Answer Run
 one-run s =
     kind s >>= λ k.
     let t = text (k .1) in
-    guard (fits (k .0) (t .0)) (strip (after (k .0)) (t .1) >>= λ r. some (run (k .0) (t .0), r))
+    ensure (fits (k .0) (t .0)) >>= λ _.
+    strip (after (k .0)) (t .1) >>= λ r.
+    some (run (k .0) (t .0), r)
 
 unfoldable pub line : List ℕ → Answer (List Run)
-line s = let x = many one-run (length s) s in guard (neat (x .0)) (some x)
+line s = let x = many one-run (length s) s in ensure (neat (x .0)) >>= λ _. some x
 
 abbrev pub then-nl : {A : Type 0} → (List ℕ → Answer A) → List ℕ → Answer A
 then-nl p s = p s >>= λ x. some (x .0, nl? (x .1))
@@ -93,7 +98,7 @@ read-list (suc d) s = list-of (item (read-list d)) s
 -- N, 1 to 6
 abbrev pub digit : List ℕ → Answer ℕ
 digit [] = none
-digit (b ∷ s) = guard (within 49 54 b) (some (b - 48, s))
+digit (b ∷ s) = ensure (within 49 54 b) >>= λ _. some (b - 48, s)
 
 -- a heading after its digit
 unfoldable pub headed : ℕ → List ℕ → Answer Block

@@ -1,16 +1,10 @@
--- What the reader of sheets is made of: a test, the first answer that is there, a prefix taken off, and a reader used again and again.
+-- What the reader of sheets is made of: the first answer that is there, a prefix taken off, and a reader used again and again.
 -- Assumes nothing.
 use Prim.Native.Nat.{ℕ, zero, suc}
-use mathlib.Core.Bool.{Bool, true, false}
 use mathlib.Core.Option.{Option, none, some}
 use mathlib.Core.List.{List, [], _∷_}
 use lib.Dec.{eqb}
-use Rattle.text.specs.Words.{case}
-
--- the answer, where the test passes
-abbrev pub guard : {A : Type 0} → Bool → Option A → Option A
-guard true o = o
-guard false o = none
+use Rattle.text.specs.Words.{_>>=_, ensure, case}
 
 -- the first answer that is there
 infixr 25 _<|>_
@@ -22,7 +16,7 @@ some a <|> o = some a
 abbrev pub strip : List ℕ → List ℕ → Option (List ℕ)
 strip [] s = some s
 strip (a ∷ p) [] = none
-strip (a ∷ p) (b ∷ s) = guard (eqb a b) (strip p s)
+strip (a ∷ p) (b ∷ s) = ensure (eqb a b) >>= λ _. strip p s
 
 -- p again and again, at most n times, as far as it goes
 unfoldable pub many : {A : Type 0} → (List ℕ → Option (A × List ℕ)) → ℕ → List ℕ → List A × List ℕ

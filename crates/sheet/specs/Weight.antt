@@ -1,12 +1,11 @@
 -- What the code's counts say of a text: its bytes and its characters, each at most 20,000; and the limits of a sheet.
 -- Assumes nothing.
 use Prim.Native.Nat.{ℕ, _+_, _-_, min}
-use mathlib.Core.Bool.{_&&_}
 use mathlib.Core.List.{List}
-use lib.Dec.{ltb, leb}
 use lib.ListN.{length}
 use Rattle.text.specs.Words.{if_then_else_}
 use Rattle.text.specs.Utf8.{size}
+use Rattle.sheet.specs.Sheet.{within-limits}
 use Rattle.sheet.specs.declared.count.Count.{Count}
 use Rattle.sheet.specs.declared.Verdict.{Verdict}
 use Rattle.sheet.specs.declared.Verdict.the-variants.{Yes, No}
@@ -23,4 +22,4 @@ added a b = record { bytes = min (a .bytes + b .bytes) 20000; chars = min (a .ch
 
 -- the verdict on a page, from the counts of all its blocks, each with two bytes 10 before it
 abbrev pub judged : Count → Verdict
-judged w = if ltb (w .bytes - 2) 16000 && leb (w .chars - 2) 8000 then Yes (w .bytes - 2) (w .chars - 2) else No
+judged w = if within-limits (w .bytes - 2) (w .chars - 2) then Yes (w .bytes - 2) (w .chars - 2) else No

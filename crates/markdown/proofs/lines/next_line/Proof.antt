@@ -10,10 +10,10 @@ use Rattle.markdown.proofs.lines.next_line.Statement.{statement}
 use Rattle.markdown.proofs.lines.next_line.Tie as tie
 
 abbrev Inv-loop : tie.InvT-loop
-Inv-loop markdown i work₀ j₀ work j = Passing markdown i j × (work ≡ work₀)
+Inv-loop markdown i work₀ j₀ mark work j = Passing markdown i j × (work ≡ work₀)
 
 abbrev μ-loop : tie.MeasureT-loop
-μ-loop markdown i work₀ j₀ work j = length markdown - j
+μ-loop markdown i work₀ j₀ mark work j = length markdown - j
 
 loop-holds : tie.Need-loop-holds Inv-loop μ-loop
 loop-holds c = (passing-none _ _ (c .before .before .pre .0), refl)
@@ -21,8 +21,8 @@ loop-holds c = (passing-none _ _ (c .before .before .pre .0), refl)
 shared-slice-read-b : tie.Need-shared-slice-read-b Inv-loop μ-loop
 shared-slice-read-b c = omega arith
 
-add-t10 : tie.Need-add-t10 Inv-loop μ-loop
-add-t10 c = omega arith
+add-t11 : tie.Need-add-t11 Inv-loop μ-loop
+add-t11 c = omega arith
 
 same-length : tie.Need-same-length Inv-loop μ-loop
 same-length c = ap length (c .before .before .before .loop .inv .1)
@@ -30,32 +30,35 @@ same-length c = ap length (c .before .before .before .loop .inv .1)
 returns : tie.Need-returns Inv-loop μ-loop
 returns c = rw (c .before .before .before .loop .inv .1) (passed-break _ _ _ (c .before .before .before .loop .inv .0) _ (c .before .before .loop-test .taken) (c .if1 .taken))
 
-opens-requires : tie.Need-opens-requires Inv-loop μ-loop
-opens-requires c κs = search needs
+slice-aggregate-stands-at : tie.Need-slice-aggregate-stands-at Inv-loop μ-loop
+slice-aggregate-stands-at c = search needs
+
+stands-at-requires : tie.Need-stands-at-requires Inv-loop μ-loop
+stands-at-requires c κs = search needs
 
 sub-put-bytes : tie.Need-sub-put-bytes Inv-loop μ-loop
-sub-put-bytes c = c .before .before .before .before .before .before .loop .inv .0 .low
+sub-put-bytes c = c .before .before .before .before .before .before .before .loop .inv .0 .low
 
 part-put-bytes-start : tie.Need-part-put-bytes-start Inv-loop μ-loop
-part-put-bytes-start c = c .before .before .before .before .before .before .loop .inv .0 .low
+part-put-bytes-start c = c .before .before .before .before .before .before .before .loop .inv .0 .low
 
 part-put-bytes-end : tie.Need-part-put-bytes-end Inv-loop μ-loop
-part-put-bytes-end c = c .before .before .before .before .before .before .loop .inv .0 .bound
+part-put-bytes-end c = c .before .before .before .before .before .before .before .loop .inv .0 .bound
 
 put-bytes-requires : tie.Need-put-bytes-requires Inv-loop μ-loop
 put-bytes-requires c κs = search needs
 
 sub-commented : tie.Need-sub-commented Inv-loop μ-loop
-sub-commented c = c .before .before .before .before .before .before .before .before .before .before .loop .inv .0 .low
+sub-commented c = c .before .before .before .before .before .before .before .before .before .before .before .loop .inv .0 .low
 
 commented-requires : tie.Need-commented-requires Inv-loop μ-loop
-commented-requires c κs = (c .before .before .before .before .before .before .before .before .before .before .before .loop .inv .0 .bound, (omega arith, omega (arith, c .before .before .before .put-bytes .kept .0, ap length (c .before .before .before .before .before .before .before .before .before .before .before .loop .inv .1), c .before .before .before .before .before .before .before .before .before .before .before .before .before .before .pre .1)))
+commented-requires c κs = (c .before .before .before .before .before .before .before .before .before .before .before .before .loop .inv .0 .bound, (omega arith, omega (arith, c .before .before .before .put-bytes .kept .0, ap length (c .before .before .before .before .before .before .before .before .before .before .before .before .loop .inv .1), c .before .before .before .before .before .before .before .before .before .before .before .before .before .before .before .pre .1)))
 
 same-length-2 : tie.Need-same-length-2 Inv-loop μ-loop
-same-length-2 c = omega (arith, c .before .before .commented .kept .1 .1 .1 .0, c .before .before .before .before .before .before .put-bytes .kept .0, ap length (c .before .before .before .before .before .before .before .before .before .before .before .before .before .before .loop .inv .1))
+same-length-2 c = omega (arith, c .before .before .commented .kept .1 .1 .1 .0, c .before .before .before .before .before .before .put-bytes .kept .0, ap length (c .before .before .before .before .before .before .before .before .before .before .before .before .before .before .before .loop .inv .1))
 
 returns-2 : tie.Need-returns-2 Inv-loop μ-loop
-returns-2 c = passed-comment _ _ _ (c .before .before .before .before .before .before .before .before .before .before .before .before .before .before .loop .inv .0) _ _ _ _ _ (c .before .before .before .before .before .before .before .before .before .before .before .before .before .before .before .before .before .pre .1) (c .before .before .before .before .before .before .before .before .before .before .before .before .before .before .loop .inv .1) (c .before .before .before .before .before .before .put-bytes .ensures) (c .before .before .commented .ensures)
+returns-2 c = passed-comment _ _ _ (c .before .before .before .before .before .before .before .before .before .before .before .before .before .before .before .loop .inv .0) _ _ _ _ _ (c .before .before .before .before .before .before .before .before .before .before .before .before .before .before .before .before .before .before .pre .1) (c .before .before .before .before .before .before .before .before .before .before .before .before .before .before .before .loop .inv .1) (c .before .before .before .before .before .before .put-bytes .ensures) (c .before .before .commented .ensures)
 
 add-j : tie.Need-add-j Inv-loop μ-loop
 add-j c = omega arith
@@ -64,10 +67,10 @@ loop-less : tie.Need-loop-less Inv-loop μ-loop
 loop-less c = omega arith
 
 loop-again : tie.Need-loop-again Inv-loop μ-loop
-loop-again c = (passing-other _ _ _ (c .before .before .before .before .before .loop .inv .0) (c .before .before .before .before .loop-test .taken) (c .before .before .if1 .left) (sym (c .before .opens .ensures) ∙ c .if2 .left), c .before .before .before .before .before .loop .inv .1)
+loop-again c = (passing-other _ _ _ (c .before .before .before .before .before .before .loop .inv .0) (c .before .before .before .before .before .loop-test .taken) (c .before .before .before .if1 .left) (sym (c .before .stands-at .ensures) ∙ c .if2 .left), c .before .before .before .before .before .before .loop .inv .1)
 
-add-t21 : tie.Need-add-t21 Inv-loop μ-loop
-add-t21 c = omega (arith, c .before .loop .inv .0 .bound)
+add-t24 : tie.Need-add-t24 Inv-loop μ-loop
+add-t24 c = omega (arith, c .before .loop .inv .0 .bound)
 
 same-length-3 : tie.Need-same-length-3 Inv-loop μ-loop
 same-length-3 c = ap length (c .before .loop .inv .1)
@@ -76,28 +79,4 @@ returns-3 : tie.Need-returns-3 Inv-loop μ-loop
 returns-3 c = rw (c .before .loop .inv .1) (passed-end _ _ _ (c .before .loop .inv .0) _ (c .loop-test .left))
 
 pub next-line-spec : {M : Type 1} → statement M
-next-line-spec =
-    tie.close
-    (tie.spec
-    Inv-loop
-    μ-loop
-    loop-holds
-    shared-slice-read-b
-    add-t10
-    same-length
-    returns
-    opens-requires
-    sub-put-bytes
-    part-put-bytes-start
-    part-put-bytes-end
-    put-bytes-requires
-    sub-commented
-    commented-requires
-    same-length-2
-    returns-2
-    add-j
-    loop-less
-    loop-again
-    add-t21
-    same-length-3
-    returns-3)
+next-line-spec = tie.close (tie.spec Inv-loop μ-loop loop-holds shared-slice-read-b add-t11 same-length returns slice-aggregate-stands-at stands-at-requires sub-put-bytes part-put-bytes-start part-put-bytes-end put-bytes-requires sub-commented commented-requires same-length-2 returns-2 add-j loop-less loop-again add-t24 same-length-3 returns-3)

@@ -12,24 +12,27 @@ use Rattle.markdown.proofs.lines.past_comment.Statement.{statement}
 use Rattle.markdown.proofs.lines.past_comment.Tie as tie
 
 abbrev Inv-loop : tie.InvT-loop
-Inv-loop markdown i j₀ j = (from closing (drop j markdown) ≡ from closing (drop i markdown)) × ((i ≤ j) × (j ≤ length markdown))
+Inv-loop markdown i j₀ mark j = (from closing (drop j markdown) ≡ from closing (drop i markdown)) × ((i ≤ j) × (j ≤ length markdown))
 
 abbrev μ-loop : tie.MeasureT-loop
-μ-loop markdown i j₀ j = length markdown - j
+μ-loop markdown i j₀ mark j = length markdown - j
 
 loop-holds : tie.Need-loop-holds Inv-loop μ-loop
 loop-holds c = (refl, (omega arith, omega arith))
 
-closes-requires : tie.Need-closes-requires Inv-loop μ-loop
-closes-requires c κs = search needs
+slice-aggregate-stands-at : tie.Need-slice-aggregate-stands-at Inv-loop μ-loop
+slice-aggregate-stands-at c = search needs
+
+stands-at-requires : tie.Need-stands-at-requires Inv-loop μ-loop
+stands-at-requires c κs = search needs
 
 add-result : tie.Need-add-result Inv-loop μ-loop
 add-result c = omega arith
 
 returns : tie.Need-returns Inv-loop μ-loop
 returns c =
-    let v = c .before .before .before .loop .inv in
-    past-here _ _ _ (v .0) (v .1 .0) (c .before .before .before .before .before .pre) (sym (c .before .closes .ensures) ∙ c .if1 .taken)
+    let v = c .before .before .before .before .loop .inv in
+    past-here _ _ _ (v .0) (v .1 .0) (c .before .before .before .before .before .before .pre) (sym (c .before .stands-at .ensures) ∙ c .if1 .taken)
 
 add-j : tie.Need-add-j Inv-loop μ-loop
 add-j c = omega arith
@@ -39,8 +42,8 @@ loop-less c = omega arith
 
 loop-again : tie.Need-loop-again Inv-loop μ-loop
 loop-again c =
-    let v = c .before .before .before .loop .inv in
-    (past-next _ _ _ (v .0) (v .1 .0) (c .before .before .loop-test .taken) (sym (c .before .closes .ensures) ∙ c .if1 .left), (omega arith, omega arith))
+    let v = c .before .before .before .before .loop .inv in
+    (past-next _ _ _ (v .0) (v .1 .0) (c .before .before .before .loop-test .taken) (sym (c .before .stands-at .ensures) ∙ c .if1 .left), (omega arith, omega arith))
 
 returns-2 : tie.Need-returns-2 Inv-loop μ-loop
 returns-2 c =
@@ -48,16 +51,4 @@ returns-2 c =
     past-end _ _ _ (v .0) (v .1 .0) (c .before .before .before .pre) (c .loop-test .left) (v .1 .1)
 
 pub past-comment-spec : {M : Type 1} → statement M
-past-comment-spec =
-    tie.close
-    (tie.spec
-    Inv-loop
-    μ-loop
-    loop-holds
-    closes-requires
-    add-result
-    returns
-    add-j
-    loop-less
-    loop-again
-    returns-2)
+past-comment-spec = tie.close (tie.spec Inv-loop μ-loop loop-holds slice-aggregate-stands-at stands-at-requires add-result returns add-j loop-less loop-again returns-2)

@@ -1,46 +1,43 @@
--- `markdown::item_line` meets its contract.
+-- `markdown::reader::item_line` meets its contract.
 -- Assumes nothing.
-use Rattle.markdown.proofs.StateLaws.{given-inside, given-small, item-text}
+use Rattle.markdown.proofs.LineSteps.{item-small, item-line}
 use native.Mathlib.Omega.{arith}
-use Rattle.text.specs.Words.{all}
-use Rattle.text.specs.Chars.{is-digit}
-use mathlib.Core.Path.{ap, _∙_}
 use borrow.Author.Needs.{needs}
 use Rattle.markdown.proofs.reader.item_line.Statement.{statement}
 use Rattle.markdown.proofs.reader.item_line.Tie as tie
 
 flush-requires : tie.Need-flush-requires
-flush-requires c κs = let g = c .before .before .before .before .pre .0 in (g .safe, g .low)
+flush-requires c κs = c .before .before .before .before .before .pre .0
 
-text-of-requires : tie.Need-text-of-requires
-text-of-requires c κs = given-inside _ _ _ (c .before .before .before .before .before .before .before .args .copied) _ _ (c .before .before .before .before .before .before .before .pre .1 .0)
+sub-put-item : tie.Need-sub-put-item
+sub-put-item c = c .before .before .before .before .before .before .before .before .pre .1 .1 .digits .order
 
-text-of-requires-2 : tie.Need-text-of-requires-2
-text-of-requires-2 c κs = given-inside _ _ _ (c .before .before .before .before .before .before .before .before .args .copied) _ _ (c .before .before .before .before .before .before .before .before .pre .0)
+part-put-item-start : tie.Need-part-put-item-start
+part-put-item-start c = c .before .before .before .before .before .before .before .before .pre .1 .1 .digits .order
+
+part-put-item-end : tie.Need-part-put-item-end
+part-put-item-end c = c .before .before .before .before .before .before .before .before .pre .1 .1 .digits .bound
+
+sub-put-item-2 : tie.Need-sub-put-item-2
+sub-put-item-2 c = c .before .before .before .before .before .before .before .before .before .pre .1 .1 .inside .order
+
+part-put-item-start-2 : tie.Need-part-put-item-start-2
+part-put-item-start-2 c = c .before .before .before .before .before .before .before .before .before .pre .1 .1 .inside .order
+
+part-put-item-end-2 : tie.Need-part-put-item-end-2
+part-put-item-end-2 c = c .before .before .before .before .before .before .before .before .before .pre .1 .1 .inside .bound
 
 put-item-requires : tie.Need-put-item-requires
 put-item-requires c κs =
-    let g = c .before .before .before .before .before .before .before .before .before .before .pre .0 in
-    let p = c .before .before .before .before .before .before .before .before .before .before .pre .1 in
-    let d = c .before .before .text-of .ensures in
-    (omega (arith, c .before .before .before .before .before .flush .ensures .grows, g .low), (omega (arith, given-small _ _ _ (c .before .before .before .before .before .before .before .before .before .before .args .copied) _ _ _ g (c .before .text-of2 .ensures) .0), (omega (arith, given-small _ _ _ (c .before .before .before .before .before .before .before .before .before .before .args .copied) _ _ _ (p .0) d .1, p .1 .0), ap (all is-digit) d ∙ p .1 .1)))
+    let p = c .before .before .before .before .before .before .before .before .before .before .before .pre in
+    let h = item-small _ _ _ _ _ _ (p .1 .0) (p .1 .1) in
+    (omega (arith, c .before .before .before .before .before .flush .ensures .grows, p .0 .1), (omega (arith, h .0), (h .1, p .1 .1 .ascii)))
 
 same-length : tie.Need-same-length
 same-length c = search needs
 
 returns : tie.Need-returns
-returns c =
-    let e = c .before .before .put-item .ensures in
-    let p = c .before .before .before .before .before .before .before .before .before .before .before .before .before .pre .1 in
-    item-text _ _ _ _ _ _ _ _ (c .before .before .before .before .before .before .before .before .before .before .before .before .before .args .copied) _ _ _ (c .before .before .before .before .before .before .before .before .before .before .before .before .before .pre .0) (c .before .before .before .before .text-of2 .ensures) (c .before .before .before .before .before .before .before .before .flush .ensures) _ _ _ _ (c .before .before .before .before .before .text-of .ensures) (p .0) (p .1 .0) (p .1 .1) (e .0) (e .1)
+returns c = let e = c .before .before .put-item .ensures in item-line _ _ _ _ _ _ (c .before .before .before .before .before .before .before .before .before .before .before .before .before .before .pre .1 .0) (c .before .before .before .before .before .before .before .before .before .before .before .before .before .before .pre .1 .1) _ _ _ _ _ _ _ _ (c .before .before .before .before .before .before .before .before .flush .ensures) (e .0) (e .1)
 
 pub item-line-spec : {M : Type 1} → statement M
-item-line-spec =
-    tie.close
-    (tie.spec
-    flush-requires
-    text-of-requires
-    text-of-requires-2
-    put-item-requires
-    same-length
-    returns)
+item-line-spec = tie.close (tie.spec flush-requires sub-put-item part-put-item-start part-put-item-end sub-put-item-2 part-put-item-start-2 part-put-item-end-2 put-item-requires same-length returns)

@@ -35,7 +35,6 @@ choose-requires c κs = search needs
 
 returns : tie.Need-returns
 returns c =
-    let a = c .before .before .before .before .before .before .before .before .before .before .before .args in
     rw (c .before .before .before .before .before .add2 .ensures, c .before .before .before .before .before .before .add .ensures, c .before .before .before .before .before .before .before .ascii .ensures, c .before .before .before .before .before .before .before .before .sign .ensures, c .before .before .before .before .touches .ensures, c .before .choose .ensures, c .before .before .is-letter .ensures)
 
 pub joined-spec : {M : Type 1} → statement M

@@ -18,7 +18,7 @@ is-special-requires c κs = search needs
 
 returns : tie.Need-returns
 returns c =
-    cc (c .before .before .before .before .before .before .add .ensures, c .before .before .before .before .before .before .before .weight-of .ensures, c .before .before .before .before .before .pick .ensures, c .before .is-special .ensures)
+    rw (c .before .before .before .before .before .before .add .ensures, c .before .before .before .before .before .before .before .weight-of .ensures, c .before .before .before .before .before .pick .ensures, c .before .is-special .ensures)
 
 pub pushed-spec : {M : Type 1} → statement M
 pushed-spec =

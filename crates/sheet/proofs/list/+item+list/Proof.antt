@@ -158,7 +158,6 @@ item-nl-requires t c κs = search needs
 
 item-list-requires : (t : ℕ) → item-lts.Need-list-requires (ic t) (item-at t) item.Post
 item-list-requires t c κs =
-    let a = c .before .before .before .before .before .before .before .before .before .before .before .before .before .before .args in
     (omega (arith, c .before .before .before .before .before .before .before .before .before .before .before .before .before .before .pre .0), omega (arith, c .before .before .before .before .before .before .before .before .before .before .before .before .before .before .pre .1))
 
 item-enum-known-past : (t : ℕ) → item-lts.Need-enum-known-past (ic t) (item-at t) item.Post
@@ -227,7 +226,6 @@ lc t = (opening-at-reads.Asked, opening-at-reads.Learnt, nl-reads.Asked, nl-read
 some-level : (t : ℕ) (c : list-lts.After-known-told (lc t) (list-at t) list.Post list-Inv-loop list-μ-loop)
     → let a = c .before .before .before .before .before .before .args in 1 ≤ a .levels
 some-level t c =
-    let a = c .before .before .before .before .before .before .args in
     omega (arith, c .before .before .before .before .if1 .left)
 
 -- its opening tag stands there
@@ -298,7 +296,6 @@ list-sub-item t c = some-level t (c .before .before .before)
 
 list-add-place : (t : ℕ) → list-lts.Need-add-place (lc t) (list-at t) list.Post list-Inv-loop list-μ-loop
 list-add-place t c =
-    let a = c .before .before .before .before .before .before .before .before .before .args in
     let i = c .loop .inv in
     omega (arith, i .later, i .within, c .before .before .nl .ensures .later)
 
@@ -307,7 +304,6 @@ list-place-requires t c κs = search needs
 
 list-item-requires : (t : ℕ) → list-lts.Need-item-requires (lc t) (list-at t) list.Post list-Inv-loop list-μ-loop
 list-item-requires t c κs =
-    let a = c .before .before .before .before .before .before .before .before .before .before .args in
     let s = some-level t (c .before .before .before .before) in
     (omega (arith, c .before .before .before .before .before .before .before .before .before .before .pre .0), omega (arith, c .before .before .before .before .before .before .before .before .before .before .pre .1))
 
@@ -325,13 +321,11 @@ list-add-requires t c κs = search needs
 
 list-add-n : (t : ℕ) → list-lts.Need-add-n (lc t) (list-at t) list.Post list-Inv-loop list-μ-loop
 list-add-n t c =
-    let a = c .before .before .before .before .before .before .before .before .before .before .before .before .before .before .before .before .args in
     let i = c .before .before .before .before .before .before .before .loop .inv in
     omega (arith, i .later, i .within, c .before .before .before .before .before .before .before .before .before .nl .ensures .later)
 
 list-loop-less : (t : ℕ) → list-lts.Need-loop-less (lc t) (list-at t) list.Post list-Inv-loop list-μ-loop
 list-loop-less t c =
-    let a = c .before .before .before .before .before .before .before .before .before .before .before .before .before .before .before .before .args in
     let g = has-item t (c .before .before) in
     omega (arith, g .later, g .within, c .before .nl2 .ensures .later)
 
