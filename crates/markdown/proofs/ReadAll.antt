@@ -2,11 +2,12 @@
 -- Assumes nothing.
 use Prim.Native.Nat.{ℕ, _+_, _*_, _-_, _≤_, _<_}
 use mathlib.Core.Bool.{Bool, true, false}
-use mathlib.Core.List.{List, [], reverse}
+use mathlib.Core.List.{List, [], _∷_, reverse}
 use mathlib.Core.Path.{_≡_, refl, sym, ap, _∙_, subst}
 use native.Mathlib.Omega.{arith}
-use lib.ListN.{length, take, drop, drop-of-length-le}
+use lib.ListN.{length, getD, take, drop, drop-of-length-le}
 use lib.Seq.{sets}
+use Rattle.text.specs.Words.{drop-while, trim-end-matches}
 use Rattle.text.specs.Utf8.{Scalars, chars, is-utf8}
 use Rattle.text.proofs.Laws.{chars-nil, chars-append, scalars-split, scalars-drop}
 use Rattle.text.proofs.FindLaws.{until-since, since-lead}
@@ -20,6 +21,8 @@ use Rattle.markdown.specs.declared.lines.Line.{Line}
 use Rattle.markdown.specs.declared.writer.State.{State}
 use Rattle.markdown.proofs.LineLaws.{after, chars-after, final, final-line, final-end}
 use Rattle.markdown.proofs.StateLaws.{moved-safe}
+use Rattle.markdown.proofs.Reading.{at-break}
+use Rattle.text.proofs.AsciiLaws.{chars-ascii}
 use Rattle.markdown.proofs.CommentLaws.{chars-cleaned}
 
 pub record Reading (md work₀ work out₀ out : List ℕ) (i : ℕ) (s : State) : Type 0 where
@@ -112,6 +115,27 @@ module _ (md work₀ work out₀ out : List ℕ) (i : ℕ) (s : State) (v : Read
           work-size = y ∙ z ∙ v .work-size;
           out-size = x ∙ v .out-size;
         }
+
+  -- an empty line changes nothing where no paragraph is open
+  pub reading-blank : i < length md → getD md i 0 ≡ 10 → s .from ≡ s .to → Reading md work₀ work out₀ out (i + 1) s
+  unfolding text-of read-line flush drop-while trim-end-matches
+  reading-blank h e o =
+      let c = at-break md i h e in
+      let q : s .to - s .from ≡ 0 = omega arith in
+      let p : v .now .paragraph ≡ [] = v .holds .paragraph ∙ rw (q, chars-nil) in
+      let z : read-line (v .now) [] ≡ v .now = rw p in
+      record {
+        now = v .now;
+        holds = v .holds;
+        left = sym (ap (λ (x : List ℕ). final (v .now) (chars x)) c ∙ final-line (v .now) (10 ∷ cleaned 0 (drop (i + 1) md)) ∙ rw (chars-nil, z)) ∙ v .left;
+        scalars = subst Scalars (chars-ascii 10 (cleaned 0 (drop (i + 1) md)) (omega arith)) (subst (λ (x : List ℕ). Scalars (chars x)) c (v .scalars)) .1;
+        safe = v .safe;
+        low = omega (arith, v .low);
+        short = omega (arith, v .short);
+        bound = omega arith;
+        work-size = v .work-size;
+        out-size = v .out-size;
+      }
 
   pub reading-low : s .at ≤ 300000000000
   reading-low = omega (arith, v .low, v .bound, v .safe .small)

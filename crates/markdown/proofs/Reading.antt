@@ -1,20 +1,25 @@
 -- The turns of the loops that read a line from the Markdown.
 -- Assumes nothing.
-use Prim.Native.Nat.{ℕ, suc, _+_, _-_, _≤_, _<_}
-use mathlib.Core.Bool.{true, false}
+use Prim.Native.Nat.{ℕ, zero, suc, _+_, _-_, _≤_, _<_}
+use mathlib.Core.Bool.{true, false, not, _&&_}
 use mathlib.Core.List.{List, [], _∷_, _++_, append-assoc, append-nil}
-use mathlib.Core.Path.{_≡_, refl, sym, ap, _∙_}
-use borrow.Author.Tests.{ne-eqb}
+use mathlib.Core.Path.{_≡_, refl, sym, ap, _∙_, subst}
+use mathlib.Core.Logic.{⊎-elim}
+use lib.Dec.{eqb}
+use borrow.Author.Tests.{ne-eqb, eqb-false, not-true}
 use native.Mathlib.Numerals.{add-one}
+use native.Mathlib.Nat.{add-zero}
 use native.Mathlib.Omega.{arith}
 use lib.ListN.{length, getD, take, drop, set, length-drop, length-set, drop-of-length-le}
 use lib.Seq.{sets, length-sets, drop-drop, drop-append-add, drop-set-lt, getD-drop, take-at, take-suc, take-suc-set, length-take-le}
-use Rattle.text.specs.Words.{starts}
+use Rattle.text.specs.Words.{starts, take-while}
+use Rattle.text.specs.Run.{RunTo}
+use Rattle.text.proofs.RunLaws.{run-le, run-next, run-stop}
 use Rattle.text.proofs.Lists.{drop-next}
-use Rattle.text.proofs.Tests.{starts-room}
+use Rattle.text.proofs.Tests.{starts-room, decide, and-true}
 use Rattle.records.proofs.Stores.{sets-front}
 use Rattle.markdown.specs.Blocks.{cleaned}
-use Rattle.markdown.specs.Parts.{part, from, past, first-line, other-lines, text-of, PastIs, CommentedIs, LineIs}
+use Rattle.markdown.specs.Parts.{part, from, past, first-line, other-lines, text-of, quiet, PastIs, CommentedIs, LineIs}
 use Rattle.markdown.specs.declared.lines.Line.{Line}
 use Rattle.markdown.proofs.CommentLaws.{closing, comment-goes, other-stays}
 
@@ -259,3 +264,27 @@ module _ (s : List ℕ) (i : ℕ) where
             short = omega arith;
             bound = p .bound;
           }
+
+-- ---- bytes that end no line and start no comment
+module _ (s : List ℕ) (i : ℕ) where
+  quiet-one : (j : ℕ) → Passing s i j → j < length s → quiet (getD s j 0) ≡ true → Passing s i (j + 1)
+  unfolding quiet
+  quiet-one j v l e =
+      let x = getD s j 0 in
+      let p = and-true (not (eqb x 10)) (not (eqb x 60)) e in
+      passing-other s i j v l (eqb-false x 10 (not-true (eqb x 10) (p .0))) (rw (drop-next s j l, not-true (eqb x 60) (p .1)))
+
+  quiet-run : (n j : ℕ) → Passing s i j → n ≤ length (take-while quiet (drop j s)) → Passing s i (j + n)
+  quiet-run zero j v h = subst (Passing s i) (sym (add-zero j)) v
+  quiet-run (suc n) j v h =
+      let l : j < length s = omega (arith, run-le quiet (drop j s), length-drop j s) in
+      ⊎-elim
+      (λ e. subst (Passing s i) (omega arith) (quiet-run n (j + 1) (quiet-one j v l e) (omega (arith, run-next quiet s j l e))))
+      (λ e. absurd (omega (arith, ap length (run-stop quiet s j l e))))
+      (decide (quiet (getD s j 0)))
+
+  pub quiet-passed : (j : ℕ) → i ≤ length s → RunTo quiet s i j → Passing s i j
+  quiet-passed j h r =
+      let m = r .low in
+      let q : i + (j - i) ≡ j = omega arith in
+      subst (Passing s i) q (quiet-run (j - i) i (passing-none s i h) (omega (arith, r .run)))

@@ -1,10 +1,11 @@
 -- What the block reader's offsets mean: parts of the Markdown and of the work buffer, and the lines of a text without comments.
 -- Assumes nothing.
 use Prim.Native.Nat.{ℕ, _+_, _-_, _≤_, _<_}
-use mathlib.Core.Bool.{Bool, true, false, cond}
+use mathlib.Core.Bool.{Bool, true, false, not, _&&_, cond}
 use mathlib.Core.List.{List, [], _∷_, _++_}
 use mathlib.Core.Path.{_≡_}
 use lib.ListN.{length, take, drop}
+use lib.Dec.{eqb}
 use Rattle.text.specs.Words.{str, starts-with}
 use Rattle.text.specs.Find.{until, since}
 use Rattle.markdown.specs.Blocks.{cleaned}
@@ -31,6 +32,10 @@ first-line s = until 10 s
 
 abbrev pub other-lines : List ℕ → List ℕ
 other-lines s = drop 1 (since 10 s)
+
+-- a byte that ends no line and starts no comment
+unfoldable pub quiet : ℕ → Bool
+quiet x = not (eqb x 10) && not (eqb x 60)
 
 -- the line that starts at offset i of the Markdown, once its comments are removed
 pub record LineIs (markdown : List ℕ) (i : ℕ) (work₀ work : List ℕ) (l : Line) : Type 0 where

@@ -41,6 +41,10 @@ fn read(markdown: &[u8], work: &mut [u8], out: &mut [u8]) -> usize
     let mut s = State::new();
     let mut i = 0;
     while i < markdown.len() {
+        if (markdown[i] == b'\n') & (s.from == s.to) {
+            i += 1;
+            continue;
+        }
         let line = next_line(markdown, i, work);
         s = read_line(markdown, work, out, s, line);
         i = line.next;

@@ -2,9 +2,10 @@
 ghost use Prim.Native.Nat.{_+_, _-_, _<_, _≤_};
 ghost use lib.Seq.{sets};
 ghost use mathlib.Core.Path.{_≡_};
-ghost use lib.ListN.{length, drop};
-ghost use Rattle.text.specs.Words.{starts-with};
-ghost use Rattle.markdown.specs.Parts.{part, source, text-of, Inside, PastIs, CommentedIs, LineIs};
+ghost use lib.ListN.{length, take, drop};
+ghost use Rattle.text.specs.Words.{all, starts-with};
+ghost use Rattle.text.specs.Run.{RunTo};
+ghost use Rattle.markdown.specs.Parts.{part, source, text-of, quiet, Inside, PastIs, CommentedIs, LineIs};
 
 // A line: a part of the Markdown, or, where a comment was removed from it, of the work buffer; and where the next line starts.
 pub struct Line {
@@ -93,12 +94,42 @@ fn commented(markdown: &[u8], start: usize, have: usize, work: &mut [u8]) -> Lin
     }
 }
 
+// Whether in the 16 bytes from i on no line ends and no comment starts. No way out of the loop, so that the compiler can take many bytes at once.
+fn is_quiet_block(s: &[u8], i: usize) -> bool
+    requires { ⌜ i + 16 ≤ length (now s) ⌝ }
+    ensures { λ r. ⌜ r ≡ all quiet (take 16 (drop i (now (s .entry)))) ⌝ }
+{
+    let mut calm = true;
+    let mut k = 0;
+    while k < 16 {
+        let b = s[i + k];
+        calm = calm & ((b != b'\n') & (b != b'<'));
+        k += 1;
+    }
+    calm
+}
+
+// Where the blocks of 16 such bytes from i on end.
+fn quiet_blocks(s: &[u8], i: usize) -> usize
+    requires { ⌜ i ≤ length (now s) ⌝ }
+    ensures { λ r. ⌜ RunTo quiet (now (s .entry)) i r ⌝ }
+{
+    let mut j = i;
+    while 16 <= s.len() - j {
+        if !is_quiet_block(s, j) {
+            return j;
+        }
+        j += 16;
+    }
+    j
+}
+
 // The line that starts at i.
 pub(crate) fn next_line(markdown: &[u8], i: usize, work: &mut [u8]) -> Line
     requires { ⌜ (i ≤ length (now markdown)) × (length (now markdown) ≤ length (now work)) ⌝ }
     ensures { λ r. ⌜ LineIs (now (markdown .entry)) i (now (work .entry)) (now (work .exit)) r ⌝ }
 {
-    let mut j = i;
+    let mut j = quiet_blocks(markdown, i);
     while j < markdown.len() {
         let b = markdown[j];
         if b == b'\n' {

@@ -90,7 +90,9 @@ pub(crate) fn is_rule(line: &[u8]) -> bool
         if !is_ruled(b) {
             return false;
         }
-        marked = marked | is_mark(b);
+        if !marked {
+            marked = is_mark(b);
+        }
         i += 1;
     }
     marked

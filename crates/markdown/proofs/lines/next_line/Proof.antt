@@ -1,6 +1,6 @@
 -- `markdown::lines::next_line` meets its contract.
 -- Assumes nothing.
-use Rattle.markdown.proofs.Reading.{Passing, passing-none, passing-other, passed-break, passed-end, passed-comment}
+use Rattle.markdown.proofs.Reading.{Passing, quiet-passed, passing-other, passed-break, passed-end, passed-comment}
 use lib.ListN.{length}
 use borrow.Author.Needs.{needs}
 use native.Mathlib.Omega.{arith}
@@ -15,8 +15,11 @@ Inv-loop markdown i work₀ j₀ mark work j = Passing markdown i j × (work ≡
 abbrev μ-loop : tie.MeasureT-loop
 μ-loop markdown i work₀ j₀ mark work j = length markdown - j
 
+quiet-blocks-requires : tie.Need-quiet-blocks-requires Inv-loop μ-loop
+quiet-blocks-requires c κs = search needs
+
 loop-holds : tie.Need-loop-holds Inv-loop μ-loop
-loop-holds c = (passing-none _ _ (c .before .before .pre .0), refl)
+loop-holds c = (quiet-passed _ _ _ (c .before .before .before .pre .0) (c .quiet-blocks .ensures), refl)
 
 shared-slice-read-b : tie.Need-shared-slice-read-b Inv-loop μ-loop
 shared-slice-read-b c = omega arith
@@ -52,13 +55,13 @@ sub-commented : tie.Need-sub-commented Inv-loop μ-loop
 sub-commented c = c .before .before .before .before .before .before .before .before .before .before .before .loop .inv .0 .low
 
 commented-requires : tie.Need-commented-requires Inv-loop μ-loop
-commented-requires c κs = (c .before .before .before .before .before .before .before .before .before .before .before .before .loop .inv .0 .bound, (omega arith, omega (arith, c .before .before .before .put-bytes .kept .0, ap length (c .before .before .before .before .before .before .before .before .before .before .before .before .loop .inv .1), c .before .before .before .before .before .before .before .before .before .before .before .before .before .before .before .pre .1)))
+commented-requires c κs = (c .before .before .before .before .before .before .before .before .before .before .before .before .loop .inv .0 .bound, (omega arith, omega (arith, c .before .before .before .put-bytes .kept .0, ap length (c .before .before .before .before .before .before .before .before .before .before .before .before .loop .inv .1), c .before .before .before .before .before .before .before .before .before .before .before .before .before .before .before .before .pre .1)))
 
 same-length-2 : tie.Need-same-length-2 Inv-loop μ-loop
 same-length-2 c = omega (arith, c .before .before .commented .kept .1 .1 .1 .0, c .before .before .before .before .before .before .put-bytes .kept .0, ap length (c .before .before .before .before .before .before .before .before .before .before .before .before .before .before .before .loop .inv .1))
 
 returns-2 : tie.Need-returns-2 Inv-loop μ-loop
-returns-2 c = passed-comment _ _ _ (c .before .before .before .before .before .before .before .before .before .before .before .before .before .before .before .loop .inv .0) _ _ _ _ _ (c .before .before .before .before .before .before .before .before .before .before .before .before .before .before .before .before .before .before .pre .1) (c .before .before .before .before .before .before .before .before .before .before .before .before .before .before .before .loop .inv .1) (c .before .before .before .before .before .before .put-bytes .ensures) (c .before .before .commented .ensures)
+returns-2 c = passed-comment _ _ _ (c .before .before .before .before .before .before .before .before .before .before .before .before .before .before .before .loop .inv .0) _ _ _ _ _ (c .before .before .before .before .before .before .before .before .before .before .before .before .before .before .before .before .before .before .before .pre .1) (c .before .before .before .before .before .before .before .before .before .before .before .before .before .before .before .loop .inv .1) (c .before .before .before .before .before .before .put-bytes .ensures) (c .before .before .commented .ensures)
 
 add-j : tie.Need-add-j Inv-loop μ-loop
 add-j c = omega arith
@@ -79,4 +82,4 @@ returns-3 : tie.Need-returns-3 Inv-loop μ-loop
 returns-3 c = rw (c .before .loop .inv .1) (passed-end _ _ _ (c .before .loop .inv .0) _ (c .loop-test .left))
 
 pub next-line-spec : {M : Type 1} → statement M
-next-line-spec = tie.close (tie.spec Inv-loop μ-loop loop-holds shared-slice-read-b add-t11 same-length returns slice-aggregate-stands-at stands-at-requires sub-put-bytes part-put-bytes-start part-put-bytes-end put-bytes-requires sub-commented commented-requires same-length-2 returns-2 add-j loop-less loop-again add-t24 same-length-3 returns-3)
+next-line-spec = tie.close (tie.spec Inv-loop μ-loop quiet-blocks-requires loop-holds shared-slice-read-b add-t11 same-length returns slice-aggregate-stands-at stands-at-requires sub-put-bytes part-put-bytes-start part-put-bytes-end put-bytes-requires sub-commented commented-requires same-length-2 returns-2 add-j loop-less loop-again add-t24 same-length-3 returns-3)

@@ -2,12 +2,13 @@
 -- Assumes nothing.
 use Rattle.markdown.proofs.RuleLaws.{ruled, marks, rule-short, rule-not, rule-is, ruled-next, ruled-stop, marks-next}
 use Rattle.text.specs.Words.{all, any}
-use lib.ListN.{length, drop, drop-of-length-le}
+use lib.ListN.{length, getD, drop, drop-of-length-le}
 use borrow.Author.Tests.{not-true, not-false}
 use borrow.Author.Needs.{needs}
 use native.Mathlib.Omega.{arith}
-use mathlib.Core.Path.{_≡_, refl, sym, _∙_}
-use mathlib.Core.Bool.{_||_}
+use mathlib.Core.Path.{_≡_, refl, sym, ap, _∙_}
+use mathlib.Core.Logic.{⊎-elim}
+use mathlib.Core.Bool.{Bool, _||_}
 use Prim.Native.Nat.{_-_, _≤_}
 use Rattle.markdown.proofs.shape.is_rule.Statement.{statement}
 use Rattle.markdown.proofs.shape.is_rule.Tie as tie
@@ -44,8 +45,16 @@ loop-less c = omega arith
 
 loop-again : tie.Need-loop-again Inv-loop μ-loop
 loop-again c =
-    let v = c .before .before .before .before .before .loop .inv in
-    (sym (ruled-next _ _ (c .before .before .before .before .loop-test .taken) (sym (c .before .before .is-ruled .ensures) ∙ not-false _ (c .before .if2 .left))) ∙ v .0, (rw (c .is-mark .ensures) (sym (marks-next _ _ (c .before .before .before .before .loop-test .taken) (c .before .before .before .before .before .loop .marked)) ∙ v .1 .0), omega arith))
+    let l = c .before .before .before .before .before .loop in
+    let h = c .before .before .before .before .loop-test .taken in
+    let b = getD (c .before .before .before .before .before .before .before .before .args .line .now) (l .i) 0 in
+    let e : c .if3 .marked ≡ l .marked || marks b =
+    ⊎-elim
+    (λ w. w .2 ∙ w .1 .ensures ∙ sym (ap (λ (t : Bool). t || marks b) (not-true (l .marked) (w .0 .taken))))
+    (λ w. w .1 ∙ not-false (l .marked) (w .0 .left) ∙ sym (ap (λ (t : Bool). t || marks b) (not-false (l .marked) (w .0 .left))))
+    (c .if3 .came)
+    in
+    (sym (ruled-next _ _ h (sym (c .before .before .is-ruled .ensures) ∙ not-false _ (c .before .if2 .left))) ∙ l .inv .0, (rw e (sym (marks-next _ _ h (l .marked)) ∙ l .inv .1 .0), omega arith))
 
 returns-3 : tie.Need-returns-3 Inv-loop μ-loop
 returns-3 c =
