@@ -176,15 +176,6 @@ module _ (s : List ℕ) (i b j : ℕ) (h : RunTo (other b) s i j) where
   pub run-nowhere : length s ≤ j → found i (index (b ∷ []) (drop i s)) ≡ Nowhere
   run-nowhere l = nowhere-is s i b (rw (until-run b (drop i s)) (let e = at-end (other b) s i j h l in omega arith))
 
-  -- what is found from j on is found from i on
-  pub run-on : found j (index (b ∷ []) (drop j s)) ≡ found i (index (b ∷ []) (drop i s))
-  run-on =
-      let r : j + length (until b (drop j s)) ≡ i + length (until b (drop i s)) = rw (until-run b (drop j s), until-run b (drop i s)) (sym (h .run)) in
-      ⊎-elim
-      (λ t. let l = ltb-true (i + length (until b (drop i s))) (length s) t in found-is s j b _ r l ∙ sym (found-is s i b _ refl l))
-      (λ t. let l = ltb-false (i + length (until b (drop i s))) (length s) t in nowhere-is s j b (omega arith) ∙ sym (nowhere-is s i b l))
-      (decide (ltb (i + length (until b (drop i s))) (length s)))
-
 here-if : (i : ℕ) (t : Bool) (k j : ℕ) → found i (if t then some k else none) ≡ Here j → (t ≡ true) × (i + k ≡ j)
 here-if i true k j e = (refl, cc)
 here-if i false k j e = (cc, cc)

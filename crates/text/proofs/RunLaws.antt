@@ -92,6 +92,9 @@ module _ (p : ℕ → Bool) where
         let d = ap (λ (x : List ℕ). length (take-while p x)) (drop-drop n j s) in
         record { low = omega (arith, h .low); high = l; run = omega arith }
 
+    pub past-run : (j k : ℕ) → RunTo p s i j → RunTo p s j k → RunTo p s i k
+    past-run j k h l = record { low = omega (arith, h .low, l .low); high = l .high; run = h .run ∙ l .run }
+
     -- where it ends
     pub at-stop : (j : ℕ) → RunTo p s i j → j < length s → p (getD s j 0) ≡ false → i + length (take-while p (drop i s)) ≡ j
     at-stop j h l e = let r = h .run in let z = ap length (run-stop s j l e) in omega arith

@@ -35,32 +35,6 @@ fn ascii_blocks(s: &[u8], i: usize) -> usize
     j
 }
 
-// Where the ASCII bytes from i on end, by blocks and then one by one.
-fn ascii_rest(s: &[u8], i: usize) -> usize
-    requires { ⌜ i ≤ length (now s) ⌝ }
-    ensures { λ r. ⌜ r ≡ i + length (take-while is-ascii (drop i (now (s .entry)))) ⌝ }
-{
-    let mut e = ascii_blocks(s, i);
-    while e < s.len() {
-        if 0x80 <= s[e] {
-            return e;
-        }
-        e += 1;
-    }
-    e
-}
-
-// Where 8 elements from i on end, or all n of them.
-pub(crate) fn near(n: usize, i: usize) -> usize
-    requires { ⌜ i ≤ n ⌝ }
-    ensures { λ r. ⌜ (i ≤ r) × (r ≤ n) ⌝ }
-{
-    if n - i < 8 {
-        return n;
-    }
-    i + 8
-}
-
 // Where the ASCII bytes from i on end. Runs are short in some texts, so the first 8 bytes are looked at one by one.
 pub fn ascii_end(s: &[u8], i: usize) -> usize
     ensures { λ r. ⌜ r ≡ i + length (take-while is-ascii (drop i (now (s .entry)))) ⌝ }
@@ -68,13 +42,24 @@ pub fn ascii_end(s: &[u8], i: usize) -> usize
     if s.len() <= i {
         return i;
     }
-    let m = near(s.len(), i);
     let mut j = i;
-    while j < m {
+    let mut k: usize = 0;
+    while k < 8 {
+        if s.len() <= j {
+            return j;
+        }
         if 0x80 <= s[j] {
             return j;
         }
         j += 1;
+        k += 1;
     }
-    ascii_rest(s, j)
+    let mut e = ascii_blocks(s, j);
+    while e < s.len() {
+        if 0x80 <= s[e] {
+            return e;
+        }
+        e += 1;
+    }
+    e
 }

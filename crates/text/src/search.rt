@@ -7,7 +7,6 @@ ghost use Rattle.text.specs.Words.{all, starts-with, index};
 ghost use Rattle.text.specs.Run.{RunTo, other};
 ghost use Rattle.text.specs.Find.{found};
 use crate::Found;
-use crate::ascii::near;
 
 // Whether the 16 bytes from i on are other bytes than b, tested as in `is_ascii_block`.
 fn is_other_block(s: &[u8], i: usize, b: u8) -> bool
@@ -38,21 +37,6 @@ fn other_blocks(s: &[u8], i: usize, b: u8) -> usize
     j
 }
 
-// The first b of s at or after i, by blocks and then one by one.
-fn find_rest(s: &[u8], i: usize, b: u8) -> Found
-    requires { ⌜ i ≤ length (now s) ⌝ }
-    ensures { λ r. ⌜ r ≡ found i (index (b ∷ []) (drop i (now (s .entry)))) ⌝ }
-{
-    let mut e = other_blocks(s, i, b);
-    while e < s.len() {
-        if s[e] == b {
-            return Found::Here(e);
-        }
-        e += 1;
-    }
-    Found::Nowhere
-}
-
 // The first b of s at or after i. Most that is looked for is near, so the first 8 bytes are looked at one by one.
 pub fn find(s: &[u8], i: usize, b: u8) -> Found
     ensures { λ r. ⌜ r ≡ found i (index (b ∷ []) (drop i (now (s .entry)))) ⌝ }
@@ -60,15 +44,26 @@ pub fn find(s: &[u8], i: usize, b: u8) -> Found
     if s.len() <= i {
         return Found::Nowhere;
     }
-    let m = near(s.len(), i);
     let mut j = i;
-    while j < m {
+    let mut k: usize = 0;
+    while k < 8 {
+        if s.len() <= j {
+            return Found::Nowhere;
+        }
         if s[j] == b {
             return Found::Here(j);
         }
         j += 1;
+        k += 1;
     }
-    find_rest(s, j, b)
+    let mut e = other_blocks(s, j, b);
+    while e < s.len() {
+        if s[e] == b {
+            return Found::Here(e);
+        }
+        e += 1;
+    }
+    Found::Nowhere
 }
 
 // Whether p stands at i.

@@ -1,52 +1,101 @@
--- `text::ascii_end` meets its contract. The loop's invariant: what was passed is ASCII.
+-- `text::ascii_end` meets its contract. The invariant of both loops: what was passed is ASCII.
 -- Assumes nothing.
-use Prim.Native.Nat.{_-_, _≤_}
+use Prim.Native.Nat.{_-_}
 use native.Mathlib.Omega.{arith}
-use mathlib.Core.Path.{sym, ap, _∙_}
+use mathlib.Core.Path.{sym, ap}
 use lib.ListN.{length}
 use Rattle.text.specs.Chars.{is-ascii}
 use Rattle.text.specs.Run.{RunTo}
-use Rattle.text.proofs.RunLaws.{at-start, past-one, run-end, at-stop}
+use Rattle.text.proofs.RunLaws.{at-start, past-one, past-run, run-end, at-stop, at-end}
 use Rattle.text.proofs.AsciiLaws.{low-ascii, high-ascii}
-use borrow.Author.Needs.{needs}
 use Rattle.text.proofs.ascii.ascii_end.Statement.{statement}
 use Rattle.text.proofs.ascii.ascii_end.Tie as tie
 
 abbrev Inv-loop : tie.InvT-loop
-Inv-loop s i m j₀ j = RunTo is-ascii s i j × (m ≤ length s)
+Inv-loop s i j₀ k₀ j k = RunTo is-ascii s i j
 
 abbrev μ-loop : tie.MeasureT-loop
-μ-loop s i m j₀ j = m - j
+μ-loop s i j₀ k₀ j k = 8 - k
 
-returns : tie.Need-returns Inv-loop μ-loop
+abbrev Inv-loop2 : tie.InvT-loop2
+Inv-loop2 s i j k e₀ e = RunTo is-ascii s i e
+
+abbrev μ-loop2 : tie.MeasureT-loop2
+μ-loop2 s i j k e₀ e = length s - e
+
+returns : tie.Need-returns Inv-loop μ-loop Inv-loop2 μ-loop2
 returns c = omega (arith, ap length (run-end is-ascii (c .before .before .args .s .now) (c .before .before .args .i) (c .if1 .taken)))
 
-near-requires : tie.Need-near-requires Inv-loop μ-loop
-near-requires c κs = omega arith
+loop-holds : tie.Need-loop-holds Inv-loop μ-loop Inv-loop2 μ-loop2
+loop-holds c = at-start is-ascii _ _ (omega arith)
 
-loop-holds : tie.Need-loop-holds Inv-loop μ-loop
-loop-holds c = (at-start is-ascii _ _ (omega arith), c .near .ensures .1)
+returns-2 : tie.Need-returns-2 Inv-loop μ-loop Inv-loop2 μ-loop2
+returns-2 c = sym (at-end is-ascii _ _ _ (c .before .before .loop .inv) (c .if2 .taken))
 
-shared-slice-read-if2 : tie.Need-shared-slice-read-if2 Inv-loop μ-loop
-shared-slice-read-if2 c = omega arith
+shared-slice-read-if3 : tie.Need-shared-slice-read-if3 Inv-loop μ-loop Inv-loop2 μ-loop2
+shared-slice-read-if3 c = omega arith
 
-returns-2 : tie.Need-returns-2 Inv-loop μ-loop
-returns-2 c = sym (at-stop is-ascii _ _ _ (c .before .before .before .loop .inv .0) (omega arith) (high-ascii _ (c .if2 .taken)))
+returns-3 : tie.Need-returns-3 Inv-loop μ-loop Inv-loop2 μ-loop2
+returns-3 c = sym (at-stop is-ascii _ _ _ (c .before .before .before .before .loop .inv) (c .before .before .if2 .left) (high-ascii _ (c .if3 .taken)))
 
-add-j : tie.Need-add-j Inv-loop μ-loop
+add-j : tie.Need-add-j Inv-loop μ-loop Inv-loop2 μ-loop2
 add-j c = omega arith
 
-loop-less : tie.Need-loop-less Inv-loop μ-loop
+add-k : tie.Need-add-k Inv-loop μ-loop Inv-loop2 μ-loop2
+add-k c = omega arith
+
+loop-less : tie.Need-loop-less Inv-loop μ-loop Inv-loop2 μ-loop2
 loop-less c = omega arith
 
-loop-again : tie.Need-loop-again Inv-loop μ-loop
-loop-again c = (past-one is-ascii _ _ _ (c .before .before .before .loop .inv .0) (omega arith) (low-ascii _ (c .if2 .left)), c .before .before .before .loop .inv .1)
+loop-again : tie.Need-loop-again Inv-loop μ-loop Inv-loop2 μ-loop2
+loop-again c = past-one is-ascii _ _ _ (c .before .before .before .before .loop .inv) (c .before .before .if2 .left) (low-ascii _ (c .if3 .left))
 
-ascii-rest-requires : tie.Need-ascii-rest-requires Inv-loop μ-loop
-ascii-rest-requires c κs = c .before .loop .inv .0 .high
+ascii-blocks-requires : tie.Need-ascii-blocks-requires Inv-loop μ-loop Inv-loop2 μ-loop2
+ascii-blocks-requires c κs = c .before .loop .inv .high
 
-returns-3 : tie.Need-returns-3 Inv-loop μ-loop
-returns-3 c = c .ascii-rest .ensures ∙ sym (c .before .before .loop .inv .0 .run)
+loop2-holds : tie.Need-loop2-holds Inv-loop μ-loop Inv-loop2 μ-loop2
+loop2-holds c = past-run is-ascii _ _ _ _ (c .before .before .loop .inv) (c .ascii-blocks .ensures)
+
+shared-slice-read-if4 : tie.Need-shared-slice-read-if4 Inv-loop μ-loop Inv-loop2 μ-loop2
+shared-slice-read-if4 c = omega arith
+
+returns-4 : tie.Need-returns-4 Inv-loop μ-loop Inv-loop2 μ-loop2
+returns-4 c = sym (at-stop is-ascii _ _ _ (c .before .before .before .loop2 .inv) (c .before .before .loop2-test .taken) (high-ascii _ (c .if4 .taken)))
+
+add-e : tie.Need-add-e Inv-loop μ-loop Inv-loop2 μ-loop2
+add-e c = omega arith
+
+loop2-less : tie.Need-loop2-less Inv-loop μ-loop Inv-loop2 μ-loop2
+loop2-less c = omega arith
+
+loop2-again : tie.Need-loop2-again Inv-loop μ-loop Inv-loop2 μ-loop2
+loop2-again c = past-one is-ascii _ _ _ (c .before .before .before .loop2 .inv) (c .before .before .loop2-test .taken) (low-ascii _ (c .if4 .left))
+
+returns-5 : tie.Need-returns-5 Inv-loop μ-loop Inv-loop2 μ-loop2
+returns-5 c = sym (at-end is-ascii _ _ _ (c .before .loop2 .inv) (c .loop2-test .left))
 
 pub ascii-end-spec : {M : Type 1} → statement M
-ascii-end-spec = tie.close (tie.spec Inv-loop μ-loop returns near-requires loop-holds shared-slice-read-if2 returns-2 add-j loop-less loop-again ascii-rest-requires returns-3)
+ascii-end-spec =
+    tie.close
+    (tie.spec
+    Inv-loop
+    μ-loop
+    Inv-loop2
+    μ-loop2
+    returns
+    loop-holds
+    returns-2
+    shared-slice-read-if3
+    returns-3
+    add-j
+    add-k
+    loop-less
+    loop-again
+    ascii-blocks-requires
+    loop2-holds
+    shared-slice-read-if4
+    returns-4
+    add-e
+    loop2-less
+    loop2-again
+    returns-5)
