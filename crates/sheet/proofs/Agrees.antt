@@ -19,6 +19,7 @@ use Rattle.sheet.specs.Tree.{Block}
 use Rattle.sheet.specs.Written.{written, blocks-of}
 use Rattle.sheet.specs.Sheet.{small, IsSheet}
 use Rattle.sheet.specs.Calls.{sheet-call, counts}
+use Rattle.sheet.proofs.Converts.{sheet-call as converts-call}
 use Rattle.sheet.proofs.TestCall.{sheet-iff}
 use Rattle.sheet.proofs.SheetReads.{sheet-reads}
 use Rattle.sheet.proofs.SheetScalars.{sheet-scalars}

@@ -18,7 +18,6 @@ use Rattle.sheet.specs.Tree.{Kind, plain, strong, em, both, code, Run, r
 use Rattle.sheet.specs.Grammar as G
 use Rattle.sheet.specs.Grammar.{NL, Char, Many, stop, more, Text, IsRun, is-run, Line, ThenNL, IsItem, is-alone, is-with, ListOf, IsList, IsBlock, is-heading, is-para, IsPage, shown, singles, first-is, fits, apart, opens, closes, opens-h, closes-h, before, after}
 use Rattle.sheet.specs.Reader.{Answer, nl?, own, char, text, opening, kind, one-run, line, then-nl, item, marked, list-of, read-list, digit, headed, read-heading, read-para, block, read-page, referred}
-use Rattle.sheet.proofs.Facts.{false-true}
 use Rattle.sheet.proofs.Conditions.{neat-of, apart-rest}
 use Rattle.sheet.proofs.ReadingLaws.{alt-left, alt-right, strip-append, front, many-stop, many-more}
 use Rattle.sheet.proofs.Sound.{Listed}

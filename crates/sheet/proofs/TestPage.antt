@@ -21,7 +21,7 @@ use Rattle.sheet.specs.Written.{joined, written}
 use Rattle.sheet.specs.Weight.{weight, alike, added, judged}
 use Rattle.sheet.specs.Says.{from, Skipped}
 use Rattle.sheet.specs.Forms.{block-form}
-use Rattle.sheet.specs.Calls.{small, sheet, Tested, no-utf8, no-sheet, yes-sheet, sheet-call, answer}
+use Rattle.sheet.specs.Calls.{sheet, Tested, no-utf8, no-sheet, yes-sheet, sheet-call, answer}
 use Rattle.sheet.specs.Sheet.{small}
 use Rattle.sheet.specs.declared.count.Count.{Count}
 use Rattle.sheet.specs.declared.Verdict.the-variants.{Yes, No}

@@ -1,11 +1,7 @@
 -- `sheet::line::is_special` meets its contract.
 -- Assumes nothing.
 use lib.Dec.{eqb}
--- `sheet::line::is_special` meets its contract.
--- Assumes nothing.
 use Rattle.text.proofs.Tests.{or-five as five}
--- `sheet::line::is_special` meets its contract.
--- Assumes nothing.
 use Rattle.html.specs.State.{special}
 use Rattle.sheet.proofs.line.is_special.Statement.{statement}
 use Rattle.sheet.proofs.line.is_special.Tie as tie

@@ -17,7 +17,7 @@ use Rattle.sheet.proofs.TestTags.{Stands, stands, missing, no-tag}
 use Rattle.sheet.proofs.TestSays.{Got, says-no, says-at, answers, refuses}
 use Rattle.sheet.proofs.TestForms.{alone-weight, with-weight}
 use Rattle.sheet.proofs.TestItems.{item-1, item-2, item-3, item-4, item-5, item-6, Began, begun-no, begun-at, Items-to, items-none, items-next, list-0, list-2, list-3, list-4, list-5, list-bound}
-use Prim.Native.Nat.{ℕ, suc, _+_, _-_, _*_, _≤_}
+use Prim.Native.Nat.{ℕ, suc, _+_, _-_, _*_, _≤_, _<_}
 use borrow.Fn.Kinds.{In}
 use borrow.Fn.PlainCycle.{Measures, is, falls, and}
 use Rattle.sheet.proofs.list.item.Reads as item
