@@ -1,16 +1,16 @@
 -- The laws of `is-rule` and of the tests that it is made of.
 -- Assumes nothing.
 use Prim.Native.Nat.{ℕ, _+_, _≤_, _<_}
-use mathlib.Core.Bool.{Bool, true, false, _&&_, _||_, true≢false, or-false, or-assoc}
+use mathlib.Core.Bool.{Bool, true, false, _&&_, _||_, true≢false, or-false}
 use mathlib.Core.List.{List, [], _∷_}
 use mathlib.Core.Logic.{⊎-elim}
 use mathlib.Core.Path.{_≡_, refl, sym, ap, _∙_}
 use borrow.Author.Tests.{ltb-true, ltb-false, le-leb, lt-leb}
-use lib.Dec.{ltb, leb}
+use lib.Dec.{ltb, leb, eqb}
 use lib.ListN.{length, getD, drop}
 use Rattle.text.specs.Words.{all, any, matches}
 use Rattle.text.specs.Utf8.{size, chars}
-use Rattle.text.proofs.Tests.{decide, and-true}
+use Rattle.text.proofs.Tests.{decide, false-true, and-true, or-elim, or-right}
 use Rattle.text.proofs.Laws.{chars-nil, size-chars}
 use Rattle.text.proofs.AsciiLaws.{chars-ascii}
 use Rattle.text.proofs.Lists.{drop-next}
@@ -69,5 +69,17 @@ module _ (s : List ℕ) where
     pub ruled-stop : ruled (getD s i 0) ≡ false → all ruled (drop i s) ≡ false
     ruled-stop e = rw (drop-next s i l, e)
 
-    pub marks-next : (m : Bool) → m || any marks (drop i s) ≡ (m || marks (getD s i 0)) || any marks (drop (i + 1) s)
-    marks-next m = rw (drop-next s i l) (sym (or-assoc m (marks (getD s i 0)) (any marks (drop (i + 1) s))))
+    pub marks-none : marks (getD s i 0) ≡ false → any marks (drop i s) ≡ any marks (drop (i + 1) s)
+    marks-none e = rw (drop-next s i l, e)
+
+    pub marks-some : marks (getD s i 0) ≡ true → any marks (drop i s) ≡ true
+    marks-some e = rw (drop-next s i l, e)
+
+-- a mark is ruled
+pub mark-ruled : (x : ℕ) → marks x ≡ true → ruled x ≡ true
+mark-ruled x e = or-elim (eqb x 45) _ (λ a. rw a) (or-elim (eqb x 42) _ (λ a. or-right (eqb x 45) _ (rw a)) (or-elim (eqb x 95) false (λ a. or-right (eqb x 45) _ (or-right (eqb x 42) _ (rw a))) false-true)) e
+
+-- the answer at the first mark
+pub rule-marked : (s : List ℕ) (t : Bool) → 3 ≤ length s → any marks s ≡ true → t ≡ all ruled s → t ≡ is-rule (chars s)
+rule-marked s true h m e = rule-is s true h (sym e) (sym m)
+rule-marked s false h m e = rule-not s (sym e)

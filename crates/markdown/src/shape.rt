@@ -1,9 +1,9 @@
 // The shape of a line: a heading, an item or a rule.
-ghost use Prim.Native.Nat.{_+_, _-_, _*_};
+ghost use Prim.Native.Nat.{_+_, _-_, _*_, _≤_};
 ghost use mathlib.Core.Path.{_≡_};
 ghost use mathlib.Core.Bool.{false, _||_};
 ghost use lib.ListN.{length, drop};
-ghost use Rattle.text.specs.Words.{starts, matches, take-while};
+ghost use Rattle.text.specs.Words.{all, starts, matches, take-while};
 ghost use Rattle.markdown.specs.Parts.{Inside};
 ghost use Rattle.markdown.specs.Shape.{Trimmed, TitleIs, MarkerIs};
 ghost use Rattle.markdown.specs.Blocks.{is-rule};
@@ -76,26 +76,40 @@ fn is_ruled(b: u8) -> bool
     is_mark(b) | (b == b' ') | (b == b'|') | (b == b':')
 }
 
-// Whether a trimmed line is a rule.
+// Whether from i on all bytes are such.
+fn all_ruled(line: &[u8], i: usize) -> bool
+    requires { ⌜ i ≤ length (now line) ⌝ }
+    ensures { λ r. ⌜ r ≡ all (matches "-*_ |:") (drop i (now (line .entry))) ⌝ }
+{
+    let mut j = i;
+    while j < line.len() {
+        if !is_ruled(line[j]) {
+            return false;
+        }
+        j += 1;
+    }
+    true
+}
+
+// Whether a trimmed line is a rule. From the first mark on none is looked for.
 pub(crate) fn is_rule(line: &[u8]) -> bool
     ensures { λ r. ⌜ r ≡ is-rule (chars (now (line .entry))) ⌝ }
 {
     if line.len() < 3 {
         return false;
     }
-    let mut marked = false;
     let mut i = 0;
     while i < line.len() {
         let b = line[i];
+        if is_mark(b) {
+            return all_ruled(line, i + 1);
+        }
         if !is_ruled(b) {
             return false;
         }
-        if !marked {
-            marked = is_mark(b);
-        }
         i += 1;
     }
-    marked
+    false
 }
 
 // What a trimmed line that starts with `#` is.
