@@ -11,7 +11,7 @@ use mathlib.Core.List.{List, [], _∷_, _++_, reverseAux}
 use lib.Dec.{eqb}
 use lib.ListN.{length, getD, take, drop, drop-of-length-le}
 use lib.Seq.{take-suc, drop-cons}
-use borrow.Author.Tests.{eq-eqb, ne-eqb, eqb-true, ltb-true, lt-ltb, le-ltb}
+use borrow.Author.Tests.{eq-eqb, ne-eqb, eqb-true, ltb-true, lt-ltb, le-ltb, eqb-false, not-true}
 use Rattle.text.specs.Words.{if_then_else_, is, str, drop-while}
 use Rattle.text.specs.Chars.{within, is-ascii, is-space, is-alphanumeric}
 use Rattle.text.specs.Utf8.{Scalars, utf8, size, chars, code-at}
@@ -27,7 +27,7 @@ use Rattle.reference.specs.declared.Ampersand.{Ampersand}
 use Rattle.reference.specs.declared.Ampersand.the-variants.{Replaced, Left}
 use Rattle.reference.proofs.Laws.{left-at, replaced-at, read-is, unescape-nil, unescape-other, unescape-size, at-and}
 use Rattle.html.specs.State.{State, with-out, line-start, special, opens, ends-with-digit, escape, put, spaced, blank, paused, next, put-all, text}
-use Rattle.html.specs.Struct.{with-space}
+use Rattle.html.specs.Struct.{out-of, with-space}
 use Rattle.html.specs.Pen.{pen-state, ascii-space, Unescaped}
 use Rattle.html.specs.declared.words.Pen.{Pen}
 use Rattle.html.specs.declared.words.Piece.{Piece}
@@ -480,3 +480,21 @@ module _ (b : ℕ) (h : special b ≡ true) where
   pub special-write : (first : Bool) (s : State) (o : List ℕ) (sp : Bool) → s .pre ≡ false
       → with-out (b ∷ 92 ∷ with-space sp o) false s ≡ put first b (spaced (with-out o sp s))
   special-write first s o sp e = write-escaped first b s o sp (escaped-out _ true (s .pre) e (escape-special first b (with-space sp o) h))
+
+-- ---- ASCII characters that are written as they are: letters and digits, and in `pre` all but `&`
+module _ (b : ℕ) (pre : Bool) (h : is-alphanumeric b || (pre && not (eqb b 38)) ≡ true) where
+  by : {X : Type 0} → (is-alphanumeric b ≡ true → X) → (pre ≡ true → (b ≡ 38 → ⊥) → X) → X
+  by f g = or-elim (is-alphanumeric b) (pre && not (eqb b 38)) f (λ e. let p = and-true pre (not (eqb b 38)) e in g (p .0) (eqb-false b 38 (not-true (eqb b 38) (p .1)))) h
+
+  pub bare-not-and : b ≡ 38 → ⊥
+  bare-not-and = by (plain-not-and b) (λ e n. n)
+
+  pub bare-not-blank : blank pre b ≡ false
+  unfolding blank
+  bare-not-blank = by (λ e. plain-not-blank b e pre) (λ e n. rw e)
+
+  pub bare-write : (s : State) → s .pre ≡ pre → (p : Pen) (out : List ℕ) → with-out (b ∷ with-space (p .space) (out-of (p .len) out)) false s ≡ put (p .first) b (spaced (pen-state s p out))
+  unfolding pen-state
+  bare-write s q p out =
+      by (λ e. plain-write b e (p .first) s (out-of (p .len) out) (p .space))
+      (λ e n. write-plain (p .first) b s (out-of (p .len) out) (p .space) (unescaped-pre (escape (p .first) b (with-space (p .space) (out-of (p .len) out))) (s .pre) (q ∙ e)))

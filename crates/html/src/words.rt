@@ -9,16 +9,16 @@ use crate::output::spaced;
 use reference::Ampersand;
 ghost use mathlib.Core.Path.{_≡_};
 ghost use Prim.Native.Nat.{ℕ, _+_, _*_, _≤_, _<_};
-ghost use mathlib.Core.List.{List};
+ghost use mathlib.Core.List.{List, _∷_};
 ghost use mathlib.Core.Bool.{true, false};
 ghost use Rattle.text.specs.Chars.{is-alphanumeric};
 ghost use lib.ListN.{length, getD, drop};
 ghost use Rattle.text.specs.Words.{drop-while};
 ghost use Rattle.text.specs.Utf8.{IsScalar, Scalars, utf8, chars, code-at};
-ghost use Rattle.html.specs.State.{State, special, opens, escape, blank, paused, put-all, text};
+ghost use Rattle.html.specs.State.{State, with-out, special, opens, escape, blank, paused, put-all, text};
 ghost use Rattle.reference.specs.Unescape.{unescape};
 ghost use Rattle.html.specs.State as state;
-ghost use Rattle.html.specs.Struct.{state-of, out-of};
+ghost use Rattle.html.specs.Struct.{state-of, out-of, with-space};
 ghost use Rattle.html.specs.Pen.{pen-state, ascii-space, AboveAscii, Unescaped};
 
 // Where text is written: the output's length, a pending space, and whether nothing of this text has been written yet.
@@ -165,13 +165,13 @@ impl Pen {
         }
     }
 
-    // A letter or digit that is written.
-    fn letter(self, out: &mut [u8], b: u8) -> Pen
-        requires { ⌜ (self .len + 2 ≤ length (now out)) × (is-alphanumeric b ≡ true) ⌝ }
-        ensures { λ r. ⌜ ((s : State) → pen-state s r (now (out .exit)) ≡ state.put (self .first) b (state.spaced (pen-state s self (now (out .entry))))) × (r .first ≡ false) ⌝ }
+    // An ASCII character that is written as it is.
+    fn bare(self, out: &mut [u8], b: u8) -> Pen
+        requires { ⌜ (self .len + 2 ≤ length (now out)) × (b < 0x80) ⌝ }
+        ensures { λ r. ⌜ ((s : State) → pen-state s r (now (out .exit)) ≡ with-out (b ∷ with-space (self .space) (out-of (self .len) (now (out .entry)))) false s) × (r .first ≡ false) ⌝ }
     {
         let n = spaced(out, self.len, self.space);
-        let m = put_char(out, n, b as u32);
+        let m = push(out, n, b);
         Pen {
             len: m,
             space: false,
@@ -261,8 +261,8 @@ fn ink(pen: Pen, out: &mut [u8], raw: &[u8], pre: bool) -> Pen
             i = v.next;
             continue;
         }
-        if plain(b) {
-            p = p.letter(out, b);
+        if plain(b) | (pre & (b != b'&')) {
+            p = p.bare(out, b);
             i += 1;
             continue;
         }

@@ -4,10 +4,11 @@ use mathlib.Core.Path.{_≡_, refl, sym, ap, _∙_}
 use native.Mathlib.Omega.{arith}
 use denote.Ref.{now}
 use borrow.Author.Tests.{not-true}
-use Prim.Native.Nat.{ℕ, _+_, _-_, _≤_, _<_}
-use mathlib.Core.Bool.{Bool, true, false, not}
+use Prim.Native.Nat.{ℕ, _+_, _-_, _*_, _≤_, _<_}
+use mathlib.Core.Bool.{Bool, true, false, not, _&&_, _||_}
 use mathlib.Core.List.{List}
 use lib.ListN.{length, getD, drop}
+use lib.Dec.{eqb}
 use Rattle.text.specs.Chars.{is-alphanumeric}
 use Rattle.text.specs.Utf8.{Scalars, utf8, chars}
 use Rattle.text.proofs.Tests.{and-true}
@@ -17,7 +18,7 @@ use Rattle.html.specs.State.{State, new, with-pre, special, put, spaced,
 use Rattle.html.specs.Pen.{pen-state, Unescaped}
 use Rattle.html.specs.declared.words.Pen.{Pen}
 use Rattle.html.specs.declared.words.Piece.{Piece}
-use Rattle.html.proofs.TextLaws.{Inking, pending-most, ink-room, ink-pause, ink-blanks, blank-out, ink-write, ink-done, piece, piece-ascii, plain-ascii, plain-not-and, plain-not-blank, special-ascii, special-not-and, special-not-blank}
+use Rattle.html.proofs.TextLaws.{Inking, pending-most, ink-room, ink-pause, ink-blanks, blank-out, ink-write, ink-done, piece, piece-ascii, bare-not-and, bare-not-blank, bare-write, special-ascii, special-not-and, special-not-blank}
 use borrow.Author.Needs.{needs}
 use Rattle.html.proofs.words.ink.Statement.{statement}
 use Rattle.html.proofs.words.ink.Tie as tie
@@ -65,10 +66,10 @@ wrote c u v r o b e f n = (
   n ∙ c .loop .inv .1,
 )
 
--- ---- a letter or digit, and a character that is always escaped
-plain-piece : (c : Head) → c .loop .i < length (raw-of c) → is-alphanumeric (getD (raw-of c) (c .loop .i) 0) ≡ true
+-- ---- a character that is written as it is, and one that is always escaped
+bare-piece : (c : Head) → c .loop .i < length (raw-of c) → getD (raw-of c) (c .loop .i) 0 < 0x80 → is-alphanumeric (getD (raw-of c) (c .loop .i) 0) || (pre-of c && not (eqb (getD (raw-of c) (c .loop .i) 0) 38)) ≡ true
     → Unescaped (raw-of c) (c .loop .i) (piece (getD (raw-of c) (c .loop .i) 0) (c .loop .i + 1))
-plain-piece c l y = piece-ascii (raw-of c) (c .loop .i) l (valid c) (plain-ascii _ y) (plain-not-and _ y)
+bare-piece c l a y = piece-ascii (raw-of c) (c .loop .i) l (valid c) a (bare-not-and _ (pre-of c) y)
 
 special-piece : (c : Head) → c .loop .i < length (raw-of c) → special (getD (raw-of c) (c .loop .i) 0) ≡ true
     → Unescaped (raw-of c) (c .loop .i) (piece (getD (raw-of c) (c .loop .i) 0) (c .loop .i + 1))
@@ -127,13 +128,13 @@ loop-again-2 c =
 plain-requires : tie.Need-plain-requires Inv-loop μ-loop
 plain-requires c κs = search needs
 
-letter-requires : tie.Need-letter-requires Inv-loop μ-loop
-letter-requires c κs =
+bare-requires : tie.Need-bare-requires Inv-loop μ-loop
+bare-requires c κs =
     let b = getD (now (c .before .before .before .before .before .before .before .before .before .args .raw)) (c .before .before .before .before .before .before .loop .i) 0 in
-    let y = sym (c .before .before .plain .ensures) ∙ c .before .if3 .taken in
+    let y = ap (λ (t : Bool). t || (c .before .before .before .before .before .before .before .before .before .args .pre && not (eqb b 38))) (sym (c .before .before .plain .ensures)) ∙ c .before .if3 .taken in
     let u = piece b (c .before .before .before .before .before .before .loop .i + 1) in
-    let v = plain-piece (c .before .before .before .before .before .before) (c .before .before .before .before .before .loop-test .taken) y in
-    (omega (arith, roomy (c .before .before .before .before .before .before) u v, utf8-size b .0), y)
+    let v = bare-piece (c .before .before .before .before .before .before) (c .before .before .before .before .before .loop-test .taken) (c .before .before .before .if1 .left) y in
+    (omega (arith, roomy (c .before .before .before .before .before .before) u v, utf8-size b .0), c .before .before .before .if1 .left)
 
 add-i : tie.Need-add-i Inv-loop μ-loop
 add-i c = omega (arith, c .before .before .before .before .before .before .before .before .loop-test .taken, c .before .before .before .before .before .before .before .before .before .before .before .before .good)
@@ -144,10 +145,10 @@ loop-less-3 c = omega (arith, c .before .before .before .before .before .before 
 loop-again-3 : tie.Need-loop-again-3 Inv-loop μ-loop
 loop-again-3 c =
     let b = getD (now (c .before .before .before .before .before .before .before .before .before .before .before .before .args .raw)) (c .before .before .before .before .before .before .before .before .before .loop .i) 0 in
-    let y = sym (c .before .before .before .before .before .plain .ensures) ∙ c .before .before .before .before .if3 .taken in
+    let y = ap (λ (t : Bool). t || (c .before .before .before .before .before .before .before .before .before .before .before .before .args .pre && not (eqb b 38))) (sym (c .before .before .before .before .before .plain .ensures)) ∙ c .before .before .before .before .if3 .taken in
     let u = piece b (c .before .before .before .before .before .before .before .before .before .loop .i + 1) in
-    let v = plain-piece (c .before .before .before .before .before .before .before .before .before) (c .before .before .before .before .before .before .before .before .loop-test .taken) y in
-    wrote (c .before .before .before .before .before .before .before .before .before) u v (c .before .before .letter .result) _ (plain-not-blank b y (c .before .before .before .before .before .before .before .before .before .before .before .before .args .pre)) (λ s h. c .before .before .letter .ensures .0 s) (c .before .before .letter .ensures .1) (search needs)
+    let v = bare-piece (c .before .before .before .before .before .before .before .before .before) (c .before .before .before .before .before .before .before .before .loop-test .taken) (c .before .before .before .before .before .before .if1 .left) y in
+    wrote (c .before .before .before .before .before .before .before .before .before) u v (c .before .before .bare .result) _ (bare-not-blank b (c .before .before .before .before .before .before .before .before .before .before .before .before .args .pre) y) (λ s h. c .before .before .bare .ensures .0 s ∙ bare-write b (c .before .before .before .before .before .before .before .before .before .before .before .before .args .pre) y s h (c .before .before .before .before .before .before .before .before .before .loop .p) (c .before .before .before .before .before .before .before .before .before .loop .out)) (c .before .before .bare .ensures .1) (search needs)
 
 cast-special : tie.Need-cast-special Inv-loop μ-loop
 cast-special c = search needs
@@ -236,4 +237,4 @@ returns : tie.Need-returns Inv-loop μ-loop
 returns c = λ s h. ink-done _ s _ _ _ (c .before .loop .p) (c .before .loop .i) (c .before .loop .inv .0 s h) (c .loop-test .left)
 
 pub ink-spec : {M : Type 1} → statement M
-ink-spec = tie.close (tie.spec Inv-loop μ-loop loop-holds shared-slice-read-b above-ascii-requires blank-requires pause-requires loop-less loop-again high-requires loop-less-2 loop-again-2 plain-requires letter-requires add-i loop-less-3 loop-again-3 cast-special special-requires escaped-requires add-i-2 loop-less-4 loop-again-4 unescaped-requires blank-requires-2 pause-requires-2 blanks-end-requires loop-less-5 loop-again-5 write-requires loop-less-6 loop-again-6 same-length returns)
+ink-spec = tie.close (tie.spec Inv-loop μ-loop loop-holds shared-slice-read-b above-ascii-requires blank-requires pause-requires loop-less loop-again high-requires loop-less-2 loop-again-2 plain-requires bare-requires add-i loop-less-3 loop-again-3 cast-special special-requires escaped-requires add-i-2 loop-less-4 loop-again-4 unescaped-requires blank-requires-2 pause-requires-2 blanks-end-requires loop-less-5 loop-again-5 write-requires loop-less-6 loop-again-6 same-length returns)
