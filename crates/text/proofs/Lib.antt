@@ -1,6 +1,7 @@
 pub mod Lists
 pub mod Tests
 pub mod Utf8
+pub mod StartLaws
 pub mod Laws
 pub mod RunLaws
 pub mod TrimLaws

@@ -4,7 +4,7 @@ ghost use mathlib.Core.Path.{_≡_};
 ghost use mathlib.Core.Bool.{true};
 ghost use lib.ListN.{length, getD, drop};
 ghost use Rattle.text.specs.Words.{if_then_else_};
-ghost use Rattle.text.specs.Utf8.{tail, row, starts3, starts4, join, char-of, char, size-of, char-size, char-code, FourAt, code-at, is-utf8};
+ghost use Rattle.text.specs.Utf8.{tail, starts3, starts4, join, char-of, char, size-of, char-size, char-code, FourAt, code-at, is-utf8};
 use crate::Char;
 use crate::ascii::ascii_end;
 use crate::classes::within;
@@ -29,27 +29,20 @@ fn is_tail(b: u32) -> bool
     within(0x80, 0xBF, b)
 }
 
-fn row(a1: u32, a2: u32, b1: u32, b2: u32, a: u32, b: u32) -> bool
-    ensures { λ r. ⌜ r ≡ row a1 a2 b1 b2 a b ⌝ }
-{
-    within(a1, a2, a) & within(b1, b2, b)
-}
-
+// Whether a character of three bytes may start with a and the tail b: it is neither overlong nor a surrogate.
 fn is_start3(a: u32, b: u32) -> bool
-    ensures { λ r. ⌜ r ≡ starts3 a b ⌝ }
+    requires { ⌜ (0xE0 ≤ a) × (a < 0xF0) ⌝ }
+    ensures { λ r. ⌜ (tail b ≡ true → r ≡ starts3 a b) ⌝ }
 {
-    row(0xE0, 0xE0, 0xA0, 0xBF, a, b)
-        | row(0xE1, 0xEC, 0x80, 0xBF, a, b)
-        | row(0xED, 0xED, 0x80, 0x9F, a, b)
-        | row(0xEE, 0xEF, 0x80, 0xBF, a, b)
+    ((a != 0xE0) | (0xA0 <= b)) & ((a != 0xED) | (b < 0xA0))
 }
 
+// Whether one of four bytes may: it is neither overlong nor above 0x10FFFF.
 fn is_start4(a: u32, b: u32) -> bool
-    ensures { λ r. ⌜ r ≡ starts4 a b ⌝ }
+    requires { ⌜ 0xF0 ≤ a ⌝ }
+    ensures { λ r. ⌜ (tail b ≡ true → r ≡ starts4 a b) ⌝ }
 {
-    row(0xF0, 0xF0, 0x90, 0xBF, a, b)
-        | row(0xF1, 0xF3, 0x80, 0xBF, a, b)
-        | row(0xF4, 0xF4, 0x80, 0x8F, a, b)
+    ((a != 0xF0) | (0x90 <= b)) & ((a != 0xF4) | (b < 0x90)) & (a < 0xF5)
 }
 
 // A size, or 0.
