@@ -1,8 +1,10 @@
+-- Blocks, their records, and the walker's answers.
 pub mod Blocks
 pub mod Format
 pub mod Decode
 pub mod Answers
 pub mod Places
-pub mod Readers
 pub mod Numbers
 pub mod Walk
+-- What the contracts of the inner functions say.
+pub mod Readers
