@@ -19,11 +19,15 @@ use Rattle.text.proofs.Utf8.{utf8-1}
 use Rattle.text.proofs.Laws.{by-chars, chars-nil, chars-utf8, chars-bad, Tails, Long, utf8-long, lost-high}
 use Rattle.text.proofs.AsciiLaws.{chars-ascii, starts-chars, drop-chars}
 use Rattle.text.specs.Find.{since}
-use Rattle.html.specs.Struct.{closed}
 
 -- ---- an ASCII text that stands at the start is as long in bytes as in characters
 abbrev arrow : List ℕ
 arrow = 45 ∷ 45 ∷ 62 ∷ []
+
+-- what is left after the first `-->`
+pub closed : List ℕ → List ℕ
+closed [] = []
+closed (x ∷ s) = let later = closed s in if starts "-->" (x ∷ s) then drop 3 (x ∷ s) else later
 
 -- ---- `closed`, step by step
 pub closed-cons : (x : ℕ) (s : List ℕ) → closed (x ∷ s) ≡ cond (starts "-->" (x ∷ s)) (drop 3 (x ∷ s)) (closed s)

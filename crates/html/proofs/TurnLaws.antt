@@ -24,13 +24,13 @@ use Rattle.text.proofs.FindLaws.{until-since, chars-until, chars-since, IsHere,
 use Rattle.text.proofs.TrimLaws.{chars-trim}
 use Rattle.html.specs.State.{State}
 use Rattle.html.specs.Page.{inside, words, Turn, read, refused, tag-read, comment, a-tag, markup, turn, on-turn, loop}
-use Rattle.html.specs.Struct.{state-of, tagged, left, closed}
+use Rattle.html.specs.Struct.{state-of, tagged, left}
 use Rattle.html.specs.declared.Tagged.{Tagged}
 use Rattle.html.specs.declared.Converter.{Converter}
 use Rattle.html.proofs.GrowLaws.{len-of}
 use Rattle.html.proofs.StepLaws.{lists-is, like}
 use Rattle.html.proofs.FitLaws.{words-size, words-lists}
-use Rattle.html.proofs.CloseLaws.{closed-chars, comment-left}
+use Rattle.html.proofs.CloseLaws.{closed, closed-chars, comment-left}
 
 -- ---- the cases of a turn, in characters
 abbrev tag-left : List ℕ → Option State → Option (List ℕ × State)
@@ -149,10 +149,10 @@ module _ (h : List ℕ) (j : ℕ) (d : State) (t : Bool) (e : t ≡ starts "<!--
   starts-is : starts "<!--" mark ≡ t
   starts-is = starts-chars (60 ∷ 33 ∷ 45 ∷ 45 ∷ []) (drop j h) (omega arith, (omega arith, (omega arith, (omega arith, tt)))) ∙ sym e
 
-  pub bytes-comment : (r : ℕ) → t ≡ true → drop r h ≡ closed (drop (j + 4) h) → some (chars (drop r h), d) ≡ left mark (markup 0 mark d)
+  pub bytes-comment : (r : ℕ) → t ≡ true → drop r h ≡ case (find "-->" (drop (j + 4) h)) [] (λ end. drop (end + 3) (drop (j + 4) h)) → some (chars (drop r h), d) ≡ left mark (markup 0 mark d)
   bytes-comment r y g =
       let p : chars (drop (j + 4) h) ≡ drop 4 mark = ap chars (sym (drop-drop 4 j h)) ∙ drop-chars (60 ∷ 33 ∷ 45 ∷ 45 ∷ []) (drop j h) (omega arith, (omega arith, (omega arith, (omega arith, tt)))) (sym e ∙ y) in
-      sym (markup-comment mark d (starts-is ∙ y) ∙ ap (λ (l : List ℕ). some (l, d)) (sym (ap chars g ∙ closed-chars (drop (j + 4) h) ∙ ap closed p)))
+      sym (markup-comment mark d (starts-is ∙ y) ∙ ap (λ (l : List ℕ). some (l, d)) (sym (ap chars (g ∙ comment-left (drop (j + 4) h)) ∙ closed-chars (drop (j + 4) h) ∙ ap closed p)))
 
   pub bytes-unclosed : t ≡ false → found j (index (62 ∷ []) (drop j h)) ≡ Nowhere → some (chars (drop (length h) h), d) ≡ left mark (markup 0 mark d)
   bytes-unclosed n g =

@@ -103,8 +103,3 @@ left s (read n d) = some (drop n s, d)
 
 unfoldable pub turned : Turned → List ℕ → List ℕ → List ℕ → Option (List ℕ × State)
 turned r l w html = if r .ok then some (chars (drop (r .next) html), state-of (r .state) l w) else none
-
--- what is left after the first `-->`
-unfoldable pub closed : List ℕ → List ℕ
-closed [] = []
-closed (x ∷ s) = let later = closed s in if starts "-->" (x ∷ s) then drop 3 (x ∷ s) else later

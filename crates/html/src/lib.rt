@@ -18,6 +18,7 @@ mod words;
 
 use finish::finish;
 use page::convert;
+pub use words::special;
 
 // What `html_to_markdown` answers: the Markdown's length, or why there is none.
 pub enum Answer {

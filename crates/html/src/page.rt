@@ -9,13 +9,14 @@ use crate::names::tag_skip;
 use text::Found;
 ghost use mathlib.Core.Path.{_≡_};
 ghost use Prim.Native.Nat.{ℕ, _+_, _*_, _^_, _≤_, _<_};
-ghost use mathlib.Core.List.{List};
+ghost use mathlib.Core.List.{List, []};
+ghost use Rattle.text.specs.Words.{case, find};
 ghost use mathlib.Core.Bool.{true};
 ghost use lib.ListN.{length, getD, drop};
 ghost use Rattle.text.specs.Utf8.{Scalars, chars};
 ghost use Rattle.html.specs.State.{new, with-skip};
 ghost use Rattle.html.specs.Page.{name-of, element, inside, words, markup, turn, loop};
-ghost use Rattle.html.specs.Struct.{state-of, lists-of, number, skip-name, tagged, turned, left, closed};
+ghost use Rattle.html.specs.Struct.{state-of, lists-of, number, skip-name, tagged, turned, left};
 
 impl Converter {
     // The state with another tag skipped.
@@ -143,7 +144,7 @@ impl Converter {
 // Where a comment ends: after the first `-->` from i on, or at the end of the page.
 fn comment_end(html: &[u8], i: usize) -> usize
     requires { ⌜ i ≤ length (now html) ⌝ }
-    ensures { λ r. ⌜ (drop r (now (html .entry)) ≡ closed (drop i (now (html .entry)))) × ((i ≤ r) × (r ≤ length (now (html .entry)))) ⌝ }
+    ensures { λ r. ⌜ (drop r (now (html .entry)) ≡ case (find "-->" (drop i (now (html .entry)))) [] (λ end. drop (end + 3) (drop i (now (html .entry))))) × ((i ≤ r) × (r ≤ length (now (html .entry)))) ⌝ }
 {
     let mut j = i;
     while j < html.len() {

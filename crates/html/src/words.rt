@@ -100,7 +100,7 @@ fn blank(c: u32, pre: bool) -> bool
 }
 
 // Characters that the Markdown reader would take for emphasis or a link.
-fn special(c: u32) -> bool
+pub fn special(c: u32) -> bool
     ensures { λ r. ⌜ r ≡ special c ⌝ }
 {
     (c == 92) | (c == 42) | (c == 96) | (c == 91) | (c == 33)

@@ -20,7 +20,8 @@ use Rattle.records.specs.Format.{encode-block}
 use Rattle.spans.specs.Spans.{spans}
 use Rattle.spans.proofs.Bounds.{spans-small}
 use Rattle.markdown.specs.Blocks.{Reader, reader, flush, is-rule, heading, row, continued, continuation, paragraph, added, plain-space, read-text}
-use Rattle.markdown.specs.Parts.{part, text-of}
+use Rattle.text.specs.Part.{between}
+use Rattle.markdown.specs.Parts.{text-of}
 use Rattle.markdown.specs.Cells.{RowIs, RowMade}
 use Rattle.markdown.specs.Shape.{Trimmed, Titled, mark, MarkerAt}
 use Rattle.markdown.specs.State.{plain-after, item-after, span-start, continued-after, continued-out, ItemAt, LastIs, Holds, Safe, grown, Given, Steps, ends, starts-with-text}
@@ -43,18 +44,18 @@ module _
     (t : line ≡ text-of md work copied from to)
     (a : Steps md work work out out₁ s p 393221 0 ends)
   where
-    pub title-small : (level x y : ℕ) → Titled line level x y → length (part line x y) ≤ 65536
+    pub title-small : (level x y : ℕ) → Titled line level x y → length (between line x y) ≤ 65536
     title-small level x y v =
         omega (arith, part-length line x y (v .inside .order) (v .inside .bound), v .inside .bound, given-small md work s copied from to line g t .0)
 
-    pub title-step : (level x y : ℕ) (out₂ : List ℕ) → Titled line level x y → r ≡ plain-after p (Heading level (spans (chars (part line x y))))
-        → out₂ ≡ sets out₁ (p .at) (encode-block (Heading level (spans (chars (part line x y)))))
+    pub title-step : (level x y : ℕ) (out₂ : List ℕ) → Titled line level x y → r ≡ plain-after p (Heading level (spans (chars (between line x y))))
+        → out₂ ≡ sets out₁ (p .at) (encode-block (Heading level (spans (chars (between line x y)))))
         → Steps md work work out out₂ s r 800000 (to - from) (heading (chars (text-of md work copied from to)))
     title-step level x y out₂ v e f =
-        let b = Heading level (spans (chars (part line x y))) in
+        let b = Heading level (spans (chars (between line x y))) in
         steps-as md work work out out₂ s r 800000 0 800000 (to - from) (added b) (heading (chars (text-of md work copied from to))) (omega arith) (omega arith)
         (λ q. ap (λ (l : List ℕ). heading (chars l) q) (sym t) ∙ v .reads q)
-        (then-plain md work out out₁ out₂ s p r a b (λ more bs. refl) e f (omega (arith, block-small (headed level) (part line x y), title-small level x y v)))
+        (then-plain md work out out₁ out₂ s p r a b (λ more bs. refl) e f (omega (arith, block-small (headed level) (between line x y), title-small level x y v)))
 
     pub opened-step : (work₁ : List ℕ) → ((q : Reader) → heading (chars line) q ≡ reader (flush q) (chars line))
         → Steps md work work₁ out₁ out₁ p r 0 (to - from) (starts-with-text (chars (text-of md work copied from to)))
@@ -67,19 +68,19 @@ module _
 
 -- ---- an item
 module _ (line : List ℕ) (depth at stop from to : ℕ) (l : length line ≤ 65536) (v : MarkerAt line depth at stop from to) where
-  pub item-small : (length (part line from to) ≤ 65536) × (length (part line at stop) ≤ 9)
+  pub item-small : (length (between line from to) ≤ 65536) × (length (between line at stop) ≤ 9)
   item-small =
       let i = v .inside in
       let d = v .digits in
       (omega (arith, part-length line from to (i .order) (i .bound), i .bound), omega (arith, part-length line at stop (d .order) (d .bound), v .few))
 
   pub item-line : (md work out out₁ out₂ : List ℕ) (s p r : State) → Steps md work work out out₁ s p 393221 0 ends
-      → r ≡ item-after p depth (mark (part line at stop)) (spans (chars (part line from to)))
-      → out₂ ≡ sets out₁ (p .at) (encode-block (Item depth (mark (part line at stop)) (spans (chars (part line from to)))))
-      → Steps md work work out out₂ s r 800000 0 (added (Item depth (mark (part line at stop)) (spans (chars (part line from to)))))
+      → r ≡ item-after p depth (mark (between line at stop)) (spans (chars (between line from to)))
+      → out₂ ≡ sets out₁ (p .at) (encode-block (Item depth (mark (between line at stop)) (spans (chars (between line from to)))))
+      → Steps md work work out out₂ s r 800000 0 (added (Item depth (mark (between line at stop)) (spans (chars (between line from to)))))
   item-line md work out out₁ out₂ s p r a e f =
-      then-item md work out out₁ out₂ s p r a depth (mark (part line at stop)) (part line from to)
-      (kind-short (part line at stop) depth (item-small .1) (v .ascii)) (item-small .0) e f
+      then-item md work out out₁ out₂ s p r a depth (mark (between line at stop)) (between line from to)
+      (kind-short (between line at stop) depth (item-small .1) (v .ascii)) (item-small .0) e f
 
 -- ---- a row
 -- the buffer changes while no paragraph is open
@@ -116,11 +117,11 @@ module _
     pub row-size : length work₁ ≡ length work
     row-size = ap length f ∙ length-sets work n T
 
-    pub row-part : part work₁ n (n + (to - from)) ≡ T
+    pub row-part : between work₁ n (n + (to - from)) ≡ T
     row-part =
         let m = text-length md work copied from to (part-inside md work copied from to order bound room) in
-        ap (λ (i : ℕ). part work₁ n (n + i)) (sym m)
-        ∙ ap (λ (x : List ℕ). part x n (n + length T)) f
+        ap (λ (i : ℕ). between work₁ n (n + i)) (sym m)
+        ∙ ap (λ (x : List ℕ). between x n (n + length T)) f
         ∙ stored-text md work T n (omega (arith, m))
 
     pub row-made : (work₂ : List ℕ) (e : ℕ) (t : Range) → RowIs work₁ work₂ n (n + (to - from)) (n + n) e → length work₂ ≡ length work₁ → Trimmed work₂ (n + n) e t
@@ -134,20 +135,20 @@ module _
         }
 
 pub row-small : (md work work₁ : List ℕ) (copied : Bool) (from to : ℕ) (t : Range) → RowMade md work work₁ copied from to t
-    → length (part work₁ (t .from) (t .to)) ≤ 4 * (to - from)
+    → length (between work₁ (t .from) (t .to)) ≤ 4 * (to - from)
 row-small md work work₁ copied from to t v = omega (arith, part-length work₁ (t .from) (t .to) (v .order) (v .bound), v .long)
 
 -- the row becomes a paragraph
 pub row-text : (md work work₁ out out₁ out₂ : List ℕ) (s p r : State) (copied : Bool) (from to : ℕ) (t : Range) → Given md work s from to
     → RowMade md work work₁ copied from to t → length work₁ ≡ length work → Steps md work work out out₁ s p 393221 0 ends
-    → r ≡ plain-after p (Paragraph (spans (chars (part work₁ (t .from) (t .to)))))
-    → out₂ ≡ sets out₁ (p .at) (encode-block (Paragraph (spans (chars (part work₁ (t .from) (t .to))))))
+    → r ≡ plain-after p (Paragraph (spans (chars (between work₁ (t .from) (t .to)))))
+    → out₂ ≡ sets out₁ (p .at) (encode-block (Paragraph (spans (chars (between work₁ (t .from) (t .to))))))
     → Steps md work work₁ out out₂ s r 2000000 0 (added (Paragraph (spans (row (chars (text-of md work copied from to))))))
 row-text md work work₁ out out₁ out₂ s p r copied from to t g v l a h i =
-    let b = Paragraph (spans (chars (part work₁ (t .from) (t .to)))) in
+    let b = Paragraph (spans (chars (between work₁ (t .from) (t .to)))) in
     let z : p .from ≡ p .to = omega (arith, a .short, a .safe .order) in
     let c = moved-step md work work₁ out₁ p (a .safe) l z in
-    let y = block-small (b .kind) (part work₁ (t .from) (t .to)) in
+    let y = block-small (b .kind) (between work₁ (t .from) (t .to)) in
     let x = row-small md work work₁ copied from to t v in
     let k : length (encode-block b) ≤ 1600000 = omega (arith, g .bound, g .safe .small) in
     rw (← v .text)

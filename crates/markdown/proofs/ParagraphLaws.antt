@@ -15,7 +15,8 @@ use Rattle.text.proofs.AsciiLaws.{chars-ascii}
 use Rattle.records.specs.Blocks.{Block}
 use Rattle.records.proofs.Stores.{sets-next}
 use Rattle.markdown.specs.Blocks.{Reader, joined, paragraph}
-use Rattle.markdown.specs.Parts.{part, text-of, Inside}
+use Rattle.text.specs.Part.{between}
+use Rattle.markdown.specs.Parts.{text-of, Inside}
 use Rattle.markdown.specs.State.{LastIs, Owned, Placed, Safe, grown, Given, Steps, starts-with-text}
 use Rattle.markdown.specs.declared.writer.State.{State}
 use Rattle.markdown.proofs.PartLaws.{part-none, part-length}
@@ -25,19 +26,19 @@ use Rattle.markdown.proofs.StateLaws.{placed, given-small, safe-inside,
 
 -- ---- a copy within the buffer
 pub record Copies (work₀ work : List ℕ) (from to at i : ℕ) : Type 0 where
-  pub left : sets work (at + i) (drop i (part work₀ from to)) ≡ sets work₀ at (part work₀ from to)
+  pub left : sets work (at + i) (drop i (between work₀ from to)) ≡ sets work₀ at (between work₀ from to)
   pub same : take at work ≡ take at work₀
   pub size : length work ≡ length work₀
   pub bound : i ≤ to - from
 
 module _ (work₀ : List ℕ) (from to at : ℕ) where
   pub copies-none : Copies work₀ work₀ from to at 0
-  copies-none = record { left = ap (λ (n : ℕ). sets work₀ n (part work₀ from to)) (add-zero at); same = refl; size = refl; bound = omega arith }
+  copies-none = record { left = ap (λ (n : ℕ). sets work₀ n (between work₀ from to)) (add-zero at); same = refl; size = refl; bound = omega arith }
 
   module _ (work : List ℕ) (i : ℕ) (v : Copies work₀ work from to at i) (o : from ≤ to) (h : to ≤ at) (l : at + (to - from) ≤ length work₀) where
     pub copies-more : i < to - from → Copies work₀ (set work (at + i) (getD work (from + i) 0)) from to at (i + 1)
     copies-more m =
-        let P = part work₀ from to in
+        let P = between work₀ from to in
         let n = part-length work₀ from to o (omega arith) in
         let e : getD work (from + i) 0 ≡ getD P i 0 =
         sym (getD-take at work (from + i) 0 (omega arith))
@@ -52,10 +53,10 @@ module _ (work₀ : List ℕ) (from to at : ℕ) where
           bound = omega arith;
         }
 
-    pub copies-all : to - from ≤ i → work ≡ sets work₀ at (part work₀ from to)
+    pub copies-all : to - from ≤ i → work ≡ sets work₀ at (between work₀ from to)
     copies-all m =
         let n = part-length work₀ from to o (omega arith) in
-        let d : drop i (part work₀ from to) ≡ [] = drop-of-length-le (part work₀ from to) {i = i} (omega arith) in
+        let d : drop i (between work₀ from to) ≡ [] = drop-of-length-le (between work₀ from to) {i = i} (omega arith) in
         rw d at (v .left)
 
 -- ---- the text of a line stays where it is while the buffer changes behind it
@@ -66,7 +67,7 @@ text-below md work₀ work true from to h e = part-below work work₀ (length md
 text-below md work₀ work false from to h e = refl
 
 -- a text stored at an offset
-pub stored-text : (md work text : List ℕ) (at : ℕ) → at + length text ≤ length work → part (sets work at text) at (at + length text) ≡ text
+pub stored-text : (md work text : List ℕ) (at : ℕ) → at + length text ≤ length work → between (sets work at text) at (at + length text) ≡ text
 stored-text md work text at h = sets-part work at text h at (omega arith) ∙ rw (part-none work at)
 
 -- the last block is where it was
@@ -115,9 +116,9 @@ module _ (md work : List ℕ) (s : State) (copied : Bool) (from to : ℕ) (g : G
       let b = g .bound in
       let u = g .safe .room in
       let o = g .order in
-      let p : part work₁ n (n + (to - from)) ≡ text-of md work true from to =
-      ap (λ (i : ℕ). part work₁ n (n + i)) (sym m)
-      ∙ ap (λ (x : List ℕ). part x n (n + length (text-of md work true from to))) f
+      let p : between work₁ n (n + (to - from)) ≡ text-of md work true from to =
+      ap (λ (i : ℕ). between work₁ n (n + i)) (sym m)
+      ∙ ap (λ (x : List ℕ). between x n (n + length (text-of md work true from to))) f
       ∙ stored-text md work (text-of md work true from to) n (omega arith)
       in
       record {
@@ -154,21 +155,21 @@ module _ (md work : List ℕ) (s : State) (copied : Bool) (from to : ℕ) (g : G
         let o = g .order in
         let z = w .size in
         let r₁ : n + k + 1 ≤ length work₁ = omega arith in
-        let e₂ : part work₂ n (n + k + 1) ≡ part work₁ n (n + k) ++ (32 ∷ []) = rw e (sets-part work₁ (n + k) (32 ∷ []) r₁ n (omega arith)) in
+        let e₂ : between work₂ n (n + k + 1) ≡ between work₁ n (n + k) ++ (32 ∷ []) = rw e (sets-part work₁ (n + k) (32 ∷ []) r₁ n (omega arith)) in
         let b₂ : take n work₂ ≡ take n work = ap (take n) e ∙ sets-below work₁ (n + k) (32 ∷ []) r₁ n (omega arith) ∙ w .below in
         let z₂ : length work₂ ≡ length work₁ = ap length e ∙ length-sets work₁ (n + k) (32 ∷ []) in
         let t : text-of md work₂ copied from to ≡ T = text-below md work work₂ copied from to (g .bound) b₂ in
         let m = given-small md work s copied from to T g refl .1 in
         let f₃ : work₃ ≡ sets work₂ (n + k + 1) T = f ∙ ap (sets work₂ (n + k + 1)) t in
         let r₂ : n + k + 1 + length T ≤ length work₂ = omega arith in
-        let e₃ : part work₃ n (n + k + 1 + (to - from)) ≡ (part work₁ n (n + k) ++ (32 ∷ [])) ++ T =
-        ap (λ (i : ℕ). part work₃ n (n + k + 1 + i)) (sym m)
-        ∙ ap (λ (x : List ℕ). part x n (n + k + 1 + length T)) f₃
+        let e₃ : between work₃ n (n + k + 1 + (to - from)) ≡ (between work₁ n (n + k) ++ (32 ∷ [])) ++ T =
+        ap (λ (i : ℕ). between work₃ n (n + k + 1 + i)) (sym m)
+        ∙ ap (λ (x : List ℕ). between x n (n + k + 1 + length T)) f₃
         ∙ sets-part work₂ (n + k + 1) T r₂ n (omega arith)
         ∙ ap (λ (l : List ℕ). l ++ T) e₂
         in
-        let p : chars (part work₃ n (n + k + 1 + (to - from))) ≡ joined (chars (text-of md work (s .copied) (s .from) (s .to))) (chars T) =
-        ap chars (e₃ ∙ append-assoc (part work₁ n (n + k)) (32 ∷ []) T ∙ ap (λ (l : List ℕ). l ++ (32 ∷ T)) (w .text))
+        let p : chars (between work₃ n (n + k + 1 + (to - from))) ≡ joined (chars (text-of md work (s .copied) (s .from) (s .to))) (chars T) =
+        ap chars (e₃ ∙ append-assoc (between work₁ n (n + k)) (32 ∷ []) T ∙ ap (λ (l : List ℕ). l ++ (32 ∷ T)) (w .text))
         ∙ joined-chars (text-of md work (s .copied) (s .from) (s .to)) T (omega (arith, P-size))
         in
         record {

@@ -15,7 +15,8 @@ use Rattle.text.specs.Find.{until, since}
 use Rattle.records.specs.Blocks.{Block}
 use Rattle.records.specs.Format.{encode-blocks}
 use Rattle.markdown.specs.Blocks.{Reader, reader, flush, cleaned, read-line, blocks}
-use Rattle.markdown.specs.Parts.{part, source, text-of, LineIs}
+use Rattle.text.specs.Part.{between}
+use Rattle.markdown.specs.Parts.{source, text-of, LineIs}
 use Rattle.markdown.specs.State.{fresh, Holds, Placed, Safe, grown, LineGiven, Steps, ends}
 use Rattle.markdown.specs.declared.lines.Line.{Line}
 use Rattle.markdown.specs.declared.writer.State.{State}
@@ -61,7 +62,7 @@ unfolding text-of
 holds-kept md work work₁ out₀ out q s u e v =
     record { stored = v .stored; end = v .end; last = v .last; paragraph = v .paragraph ∙ ap chars (go (s .copied) (u .place)) }
   where
-    go : (c : Bool) → Placed c (length md) (s .from) (s .to) → part (source c md work) (s .from) (s .to) ≡ part (source c md work₁) (s .from) (s .to)
+    go : (c : Bool) → Placed c (length md) (s .from) (s .to) → between (source c md work) (s .from) (s .to) ≡ between (source c md work₁) (s .from) (s .to)
     go true p = rw (p .0) (ap (take (s .to - length md)) (sym e))
     go false p = refl
 

@@ -13,7 +13,8 @@ use Rattle.text.specs.Trim.{trim}
 use Rattle.records.specs.Blocks.{Item}
 use Rattle.spans.specs.Spans.{spans}
 use Rattle.markdown.specs.Blocks.{Reader, list-marker, heading, added, read-text, read-line}
-use Rattle.markdown.specs.Parts.{part, source, text-of, Inside}
+use Rattle.text.specs.Part.{between}
+use Rattle.markdown.specs.Parts.{source, text-of, Inside}
 use Rattle.markdown.specs.Shape.{Trimmed, mark, MarkerAt}
 use Rattle.markdown.specs.State.{grown, Given, LineGiven, Steps, ends}
 use Rattle.markdown.specs.declared.shape.Range.{Range}
@@ -53,13 +54,13 @@ module _ (md work : List ℕ) (s : State) (l : Line) (g : LineGiven md work s l)
     pub words-fit : grown s + (l .from + w .to - (l .from + w .from)) ≤ length md
     words-fit = omega (arith, g .fits, words-in)
 
-    words-text : part text (w .from) (w .to) ≡ text-of md work (l .copied) (l .from + w .from) (l .from + w .to)
+    words-text : between text (w .from) (w .to) ≡ text-of md work (l .copied) (l .from + w .from) (l .from + w .to)
     unfolding text-of
     words-text =
-        ap (λ (x : List ℕ). part x (w .from) (w .to)) t
+        ap (λ (x : List ℕ). between x (w .from) (w .to)) t
         ∙ part-part (source (l .copied) md work) (l .from) (l .to) (w .from) (w .to) (omega (arith, size, v .high))
 
-    words : chars (part text (w .from) (w .to)) ≡ trim (chars text)
+    words : chars (between text (w .from) (w .to)) ≡ trim (chars text)
     words = v .text ∙ rw part-all
 
     pub words-scalars : Scalars (chars (text-of md work (l .copied) (l .from + w .from) (l .from + w .to)))
@@ -94,7 +95,7 @@ module _ (md work : List ℕ) (s : State) (l : Line) (g : LineGiven md work s l)
 
         module _ (o : getD text (w .from) 0 ≡ 35 → ⊥) where
           pub step-item : (depth at stop from to : ℕ) → MarkerAt text depth at stop from to
-              → Steps md work work₁ out out₁ s r 800000 0 (added (Item depth (mark (part text at stop)) (spans (chars (part text from to))))) → Read
+              → Steps md work work₁ out out₁ s r 800000 0 (added (Item depth (mark (between text at stop)) (spans (chars (between text from to))))) → Read
           step-item depth at stop from to m a =
               step-line _ 800000 0 (line-item text (w .from) (w .to) words some (v .high) o depth at stop from to m) (omega arith) (omega arith) a
 

@@ -19,7 +19,8 @@ use Rattle.text.proofs.Lists.{drop-next}
 use Rattle.text.proofs.Tests.{starts-room, decide, and-true}
 use Rattle.records.proofs.Stores.{sets-front}
 use Rattle.markdown.specs.Blocks.{cleaned}
-use Rattle.markdown.specs.Parts.{part, from, past, first-line, other-lines, text-of, quiet, PastIs, CommentedIs, LineIs}
+use Rattle.text.specs.Part.{between}
+use Rattle.markdown.specs.Parts.{from, past, first-line, other-lines, text-of, quiet, PastIs, CommentedIs, LineIs}
 use Rattle.markdown.specs.declared.lines.Line.{Line}
 use Rattle.markdown.proofs.CommentLaws.{closing, comment-goes, other-stays}
 
@@ -163,14 +164,14 @@ module _ (s : List ℕ) (start have : ℕ) (work₀ : List ℕ) where
         }
 
 -- ---- a line that no comment was met in yet
-pub part-suc : (s : List ℕ) (i j : ℕ) → i ≤ j → j < length s → part s i (j + 1) ≡ part s i j ++ (getD s j 0 ∷ [])
+pub part-suc : (s : List ℕ) (i j : ℕ) → i ≤ j → j < length s → between s i (j + 1) ≡ between s i j ++ (getD s j 0 ∷ [])
 part-suc s i j m l =
     let q : j + 1 - i ≡ suc (j - i) = omega arith in
     let r : i + (j - i) ≡ j = omega arith in
     rw q (take-suc (drop i s) (j - i) 0 (rw (length-drop i s) (omega arith)) ∙ rw (getD-drop i s (j - i) 0, r))
 
 pub record Passing (s : List ℕ) (i j : ℕ) : Type 0 where
-  pub bytes : part s i j ++ first-line (cleaned 0 (drop j s)) ≡ first-line (cleaned 0 (drop i s))
+  pub bytes : between s i j ++ first-line (cleaned 0 (drop j s)) ≡ first-line (cleaned 0 (drop i s))
   pub left : other-lines (cleaned 0 (drop j s)) ≡ other-lines (cleaned 0 (drop i s))
   pub low : i ≤ j
   pub bound : j ≤ length s
@@ -190,8 +191,8 @@ module _ (s : List ℕ) (i : ℕ) where
         record {
           bytes =
               rw (part-suc s i j q l)
-              (append-assoc (part s i j) (getD s j 0 ∷ []) (first-line (cleaned 0 (drop (j + 1) s)))
-              ∙ ap (λ (x : List ℕ). part s i j ++ x) (sym (ap first-line a ∙ o .0))
+              (append-assoc (between s i j) (getD s j 0 ∷ []) (first-line (cleaned 0 (drop (j + 1) s)))
+              ∙ ap (λ (x : List ℕ). between s i j ++ x) (sym (ap first-line a ∙ o .0))
               ∙ v .bytes);
           left = sym (ap other-lines a ∙ o .1) ∙ v .left;
           low = omega arith;
@@ -208,7 +209,7 @@ module _ (s : List ℕ) (i : ℕ) where
           let a = at-break s j l e in
           let q = v .low in
           record {
-            bytes = sym (append-nil (part s i j)) ∙ (rw a at (v .bytes));
+            bytes = sym (append-nil (between s i j)) ∙ (rw a at (v .bytes));
             left = rw a at (v .left);
             kept = refl;
             order = q;
@@ -225,7 +226,7 @@ module _ (s : List ℕ) (i : ℕ) where
           let q = v .low in
           let b = v .bound in
           record {
-            bytes = sym (append-nil (part s i j)) ∙ (rw d at (v .bytes));
+            bytes = sym (append-nil (between s i j)) ∙ (rw d at (v .bytes));
             left = rw z (rw d at (v .left));
             kept = refl;
             order = q;
@@ -235,18 +236,18 @@ module _ (s : List ℕ) (i : ℕ) where
           }
 
       -- the line's front is stored, and its rest follows
-      pub passed-comment : (work′ work₁ work₂ : List ℕ) (r : Line) → length s ≤ length work → work′ ≡ work → work₁ ≡ sets work′ 0 (part s i j)
+      pub passed-comment : (work′ work₁ work₂ : List ℕ) (r : Line) → length s ≤ length work → work′ ≡ work → work₁ ≡ sets work′ 0 (between s i j)
           → CommentedIs s j (j - i) work₁ work₂ r → LineIs s i work work₂ r
       unfolding text-of
       passed-comment work′ work₁ work₂ r h same e′ p =
-          let e : work₁ ≡ sets work 0 (part s i j) = e′ ∙ ap (λ (w : List ℕ). sets w 0 (part s i j)) same in
+          let e : work₁ ≡ sets work 0 (between s i j) = e′ ∙ ap (λ (w : List ℕ). sets w 0 (between s i j)) same in
           let q = v .low in
           let b = v .bound in
-          let n : length (part s i j) ≡ j - i = length-take-le (j - i) (drop i s) (rw (length-drop i s) (omega arith)) in
-          let f : work₁ ≡ part s i j ++ drop (length (part s i j)) work = e ∙ sets-front work (part s i j) (omega arith) in
-          let t : take (j - i) work₁ ≡ part s i j = ap (take (j - i)) f ∙ take-at (part s i j) (drop (length (part s i j)) work) (j - i) n in
+          let n : length (between s i j) ≡ j - i = length-take-le (j - i) (drop i s) (rw (length-drop i s) (omega arith)) in
+          let f : work₁ ≡ between s i j ++ drop (length (between s i j)) work = e ∙ sets-front work (between s i j) (omega arith) in
+          let t : take (j - i) work₁ ≡ between s i j = ap (take (j - i)) f ∙ take-at (between s i j) (drop (length (between s i j)) work) (j - i) n in
           let z : r .to - 0 ≡ r .to = omega arith in
-          let m : length work₁ ≡ length work = ap length e ∙ length-sets work 0 (part s i j) in
+          let m : length work₁ ≡ length work = ap length e ∙ length-sets work 0 (between s i j) in
           let o = p .first in
           let y = p .short in
           let w = p .bound in
@@ -257,8 +258,8 @@ module _ (s : List ℕ) (i : ℕ) where
             kept =
                 p .kept
                 ∙ ap (drop (length s)) f
-                ∙ (let k : length s ≡ length (part s i j) + (length s - (j - i)) = omega arith in
-                rw k (drop-append-add (part s i j) (drop (length (part s i j)) work) (length s - (j - i)) ∙ drop-drop (length s - (j - i)) (length (part s i j)) work));
+                ∙ (let k : length s ≡ length (between s i j) + (length s - (j - i)) = omega arith in
+                rw k (drop-append-add (between s i j) (drop (length (between s i j)) work) (length s - (j - i)) ∙ drop-drop (length s - (j - i)) (length (between s i j)) work));
             order = omega arith;
             low = omega arith;
             short = omega arith;

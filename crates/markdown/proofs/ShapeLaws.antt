@@ -23,7 +23,8 @@ use Rattle.text.proofs.Lists.{drop-next}
 use Rattle.records.specs.Blocks.{Heading, Paragraph, Item}
 use Rattle.spans.specs.Spans.{spans}
 use Rattle.markdown.specs.Blocks.{is-rule, marked, marker-at, list-marker, row, Reader, reader, flush, added, heading, paragraph, continuation, read-text, read-line}
-use Rattle.markdown.specs.Parts.{part, Inside}
+use Rattle.text.specs.Part.{between}
+use Rattle.markdown.specs.Parts.{Inside}
 use Rattle.markdown.specs.Shape.{Trimmed, Titled, mark, MarkerAt}
 use Rattle.markdown.specs.declared.shape.Range.{Range}
 use Rattle.markdown.proofs.PartLaws.{part-from, part-none}
@@ -127,7 +128,7 @@ module _ (line : List ℕ) (at : ℕ) (e : at ≡ start-of line) where
   module _
       (b : starts "- " (drop at line) || starts "* " (drop at line) || starts "+ " (drop at line) ≡ false)
       (n : ℕ)
-      (d₀ : n ≡ length (take-while is-digit (part line at (length line))))
+      (d₀ : n ≡ length (take-while is-digit (between line at (length line))))
     where
       abbrev rest : List ℕ
       rest = drop at line
@@ -172,7 +173,7 @@ module _ (line : List ℕ) (at : ℕ) (e : at ≡ start-of line) where
         mark-some [] h = absurd (omega arith)
         mark-some (c ∷ ds) h = refl
 
-        digits-part : part line at (at + n) ≡ take-while is-digit rest
+        digits-part : between line at (at + n) ≡ take-while is-digit rest
         digits-part = let q : at + n - at ≡ n = omega arith in rw q (ap (λ (k : ℕ). take k rest) d ∙ run-take is-digit rest)
 
         pub ordinal-is : (g : Range) → (n ≡ 0 → ⊥) → n ≤ 9 → Trimmed line (at + n + 2) (length line) g
@@ -219,42 +220,42 @@ text-eq r i t = refl
 
 -- the first byte of a part, and of a text
 module _ (line : List ℕ) (a b : ℕ) (some : a < b) (bound : b ≤ length line) where
-  part-cons : part line a b ≡ getD line a 0 ∷ take (b - a - 1) (drop (a + 1) line)
+  part-cons : between line a b ≡ getD line a 0 ∷ take (b - a - 1) (drop (a + 1) line)
   part-cons = let q : b - a ≡ suc (b - a - 1) = omega arith in rw (drop-next line a (omega arith)) (ap (λ (n : ℕ). take n (getD line a 0 ∷ drop (a + 1) line)) q)
 
-  pub part-some : is-empty (part line a b) ≡ false
+  pub part-some : is-empty (between line a b) ≡ false
   part-some = rw part-cons
 
-  pub part-starts : (x : ℕ) → x < 0x80 → starts-with (x ∷ []) (chars (part line a b)) ≡ eqb (getD line a 0) x
-  part-starts x h = starts-chars (x ∷ []) (part line a b) (ascii-one x h) ∙ rw part-cons (and-true-right (eqb (getD line a 0) x))
+  pub part-starts : (x : ℕ) → x < 0x80 → starts-with (x ∷ []) (chars (between line a b)) ≡ eqb (getD line a 0) x
+  part-starts x h = starts-chars (x ∷ []) (between line a b) (ascii-one x h) ∙ rw part-cons (and-true-right (eqb (getD line a 0) x))
 
 line-starts : (line : List ℕ) (x : ℕ) → 0 < length line → x < 0x80 → starts-with (x ∷ []) (chars line) ≡ eqb (getD line 0 0) x
 line-starts line x f h = rw (part-from line 0) at (part-starts line 0 (length line) f (omega arith) x h)
 
-module _ (line : List ℕ) (a b : ℕ) (t : chars (part line a b) ≡ trim (chars line)) where
+module _ (line : List ℕ) (a b : ℕ) (t : chars (between line a b) ≡ trim (chars line)) where
   pub line-blank : a ≡ b → (r : Reader) → read-line r (chars line) ≡ reader (flush r) []
   line-blank e r =
-      let q : chars (part line a b) ≡ [] = rw (e, part-none line b) chars-nil in
+      let q : chars (between line a b) ≡ [] = rw (e, part-none line b) chars-nil in
       line-eq r (chars line) [] (sym t ∙ q)
 
   module _ (some : a < b) (bound : b ≤ length line) where
     not-blank : (r : Reader)
         → read-line r (chars line)
-        ≡ (if eqb (getD line a 0) 35 then heading (chars (part line a b)) r
-        else case (list-marker (chars line)) (read-text r (starts " " (chars line)) (chars (part line a b))) (λ m. added (Item (m .depth) (m .marker) (spans (m .item))) r))
+        ≡ (if eqb (getD line a 0) 35 then heading (chars (between line a b)) r
+        else case (list-marker (chars line)) (read-text r (starts " " (chars line)) (chars (between line a b))) (λ m. added (Item (m .depth) (m .marker) (spans (m .item))) r))
     not-blank r =
-        line-eq r (chars line) (chars (part line a b)) (sym t)
-        ∙ rw (empty-chars (part line a b), part-some line a b some bound, part-starts line a b some bound 35 (omega arith))
+        line-eq r (chars line) (chars (between line a b)) (sym t)
+        ∙ rw (empty-chars (between line a b), part-some line a b some bound, part-starts line a b some bound 35 (omega arith))
 
-    pub line-hash : getD line a 0 ≡ 35 → (r : Reader) → read-line r (chars line) ≡ heading (chars (part line a b)) r
+    pub line-hash : getD line a 0 ≡ 35 → (r : Reader) → read-line r (chars line) ≡ heading (chars (between line a b)) r
     line-hash e r = not-blank r ∙ rw (eq-eqb (getD line a 0) 35 e)
 
     module _ (other : getD line a 0 ≡ 35 → ⊥) where
       pub line-item : (depth at stop from to : ℕ) → MarkerAt line depth at stop from to → (r : Reader)
-          → read-line r (chars line) ≡ added (Item depth (mark (part line at stop)) (spans (chars (part line from to)))) r
+          → read-line r (chars line) ≡ added (Item depth (mark (between line at stop)) (spans (chars (between line from to)))) r
       line-item depth at stop from to v r = not-blank r ∙ rw (ne-eqb (getD line a 0) 35 other, v .reads)
 
-      pub line-text : list-marker (chars line) ≡ none → (r : Reader) → read-line r (chars line) ≡ read-text r (eqb (getD line 0 0) 32) (chars (part line a b))
+      pub line-text : list-marker (chars line) ≡ none → (r : Reader) → read-line r (chars line) ≡ read-text r (eqb (getD line 0 0) 32) (chars (between line a b))
       line-text e r =
           not-blank r
           ∙ rw (ne-eqb (getD line a 0) 35 other, e, line-starts line 32 (omega arith) (omega arith))

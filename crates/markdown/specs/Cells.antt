@@ -10,7 +10,8 @@ use Rattle.text.specs.Words.{if_then_else_, starts}
 use Rattle.text.specs.Utf8.{chars}
 use Rattle.text.specs.Trim.{trim}
 use Rattle.markdown.specs.Blocks.{row}
-use Rattle.markdown.specs.Parts.{part, text-of}
+use Rattle.text.specs.Part.{between}
+use Rattle.markdown.specs.Parts.{text-of}
 use Rattle.markdown.specs.declared.shape.Range.{Range}
 
 -- the first n characters belong to the ` | ` before them
@@ -35,19 +36,19 @@ dot-bytes = 32 ∷ 194 ∷ 183 ∷ 32 ∷ []
 
 -- the cells of the part from a to b of a buffer, stored from `at` on
 pub record CellsIs (work₀ work : List ℕ) (a b at r : ℕ) : Type 0 where
-  pub text : part work at r ≡ cells dot-bytes 0 (part work₀ a b)
+  pub text : between work at r ≡ cells dot-bytes 0 (between work₀ a b)
   pub low : at ≤ r
   pub high : r ≤ at + 4 * (b - a)
 
 -- the row that the part from `from` to `to` is, stored from `at` on
 pub record RowIs (work₀ work : List ℕ) (from to at r : ℕ) : Type 0 where
-  pub text : trim (chars (part work at r)) ≡ row (chars (part work₀ from to))
+  pub text : trim (chars (between work at r)) ≡ row (chars (between work₀ from to))
   pub low : at ≤ r
   pub high : r ≤ at + 4 * (to - from)
 
 -- the row that a part of the Markdown, or of the work buffer, is, made in the work buffer
 pub record RowMade (markdown work₀ work : List ℕ) (copied : Bool) (from to : ℕ) (r : Range) : Type 0 where
-  pub text : chars (part work (r .from) (r .to)) ≡ row (chars (text-of markdown work₀ copied from to))
+  pub text : chars (between work (r .from) (r .to)) ≡ row (chars (text-of markdown work₀ copied from to))
   pub order : r .from ≤ r .to
   pub long : r .to ≤ r .from + 4 * (to - from)
   pub bound : r .to ≤ length work

@@ -8,6 +8,7 @@ use lib.ListN.{length, take, drop}
 use lib.Dec.{eqb}
 use Rattle.text.specs.Words.{str, starts-with}
 use Rattle.text.specs.Find.{until, since}
+use Rattle.text.specs.Part.{between}
 use Rattle.markdown.specs.Blocks.{cleaned}
 use Rattle.markdown.specs.declared.lines.Line.{Line}
 
@@ -15,12 +16,9 @@ abbrev pub source : Bool → List ℕ → List ℕ → List ℕ
 source true markdown work = work
 source false markdown work = markdown
 
-abbrev pub part : List ℕ → ℕ → ℕ → List ℕ
-part s from to = take (to - from) (drop from s)
-
 -- a part of the Markdown, or of the work buffer
 unfoldable pub text-of : List ℕ → List ℕ → Bool → ℕ → ℕ → List ℕ
-text-of markdown work copied from to = part (source copied markdown work) from to
+text-of markdown work copied from to = between (source copied markdown work) from to
 
 pub record Inside (s : List ℕ) (from to : ℕ) : Type 0 where
   pub order : from ≤ to

@@ -12,7 +12,8 @@ use Rattle.text.specs.Trim.{trim}
 use Rattle.records.specs.Blocks.{Heading}
 use Rattle.spans.specs.Spans.{spans}
 use Rattle.markdown.specs.Blocks.{Marked, list-marker, Reader, reader, flush, added, heading}
-use Rattle.markdown.specs.Parts.{part, Inside}
+use Rattle.text.specs.Part.{between}
+use Rattle.markdown.specs.Parts.{Inside}
 use Rattle.markdown.specs.declared.shape.Range.{Range}
 use Rattle.markdown.specs.declared.shape.Title.{Title}
 use Rattle.markdown.specs.declared.shape.Title.the-variants.{Named, Plain}
@@ -24,13 +25,13 @@ pub record Trimmed (s : List ℕ) (from to : ℕ) (r : Range) : Type 0 where
   pub low : from ≤ r .from
   pub order : r .from ≤ r .to
   pub high : r .to ≤ to
-  pub text : chars (part s (r .from) (r .to)) ≡ trim (chars (part s from to))
+  pub text : chars (between s (r .from) (r .to)) ≡ trim (chars (between s from to))
 
 -- a trimmed line that starts with `#`
 pub record Titled (line : List ℕ) (level from to : ℕ) : Type 0 where
   pub low : level ≤ 3
   pub inside : Inside line from to
-  pub reads : (r : Reader) → heading (chars line) r ≡ added (Heading level (spans (chars (part line from to)))) r
+  pub reads : (r : Reader) → heading (chars line) r ≡ added (Heading level (spans (chars (between line from to)))) r
 
 abbrev pub TitleIs : List ℕ → Title → Type 0
 TitleIs line (Named level from to) = Titled line level from to
@@ -47,9 +48,9 @@ item-of depth digits text = record { depth = depth; marker = mark digits; item =
 pub record MarkerAt (line : List ℕ) (depth at stop from to : ℕ) : Type 0 where
   pub digits : Inside line at stop
   pub few : stop ≤ at + 9
-  pub ascii : all is-digit (part line at stop) ≡ true
+  pub ascii : all is-digit (between line at stop) ≡ true
   pub inside : Inside line from to
-  pub reads : list-marker (chars line) ≡ some (item-of depth (part line at stop) (part line from to))
+  pub reads : list-marker (chars line) ≡ some (item-of depth (between line at stop) (between line from to))
 
 abbrev pub MarkerIs : List ℕ → Marker → Type 0
 MarkerIs line (At depth at stop from to) = MarkerAt line depth at stop from to

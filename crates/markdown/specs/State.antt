@@ -15,7 +15,8 @@ use Rattle.records.specs.Format.{bit, non-empty, le32, kind-bits, encode-kind, 
 use Rattle.spans.specs.Spans.{spans}
 use Rattle.spans.specs.declared.Written.{Written}
 use Rattle.markdown.specs.Blocks.{Reader, reader, flush, plain-space, continued}
-use Rattle.markdown.specs.Parts.{part, text-of}
+use Rattle.text.specs.Part.{between}
+use Rattle.markdown.specs.Parts.{text-of}
 use Rattle.markdown.specs.declared.lines.Line.{Line}
 use Rattle.markdown.specs.declared.writer.State.{State}
 
@@ -114,7 +115,7 @@ pub record Holds (markdown work out₀ out : List ℕ) (r : Reader) (s : State) 
 
 -- the open paragraph is in the second part of the work buffer
 pub record Owned (markdown work₀ work : List ℕ) (s : State) : Type 0 where
-  pub text : part work (length markdown) (length markdown + (s .to - s .from)) ≡ text-of markdown work₀ (s .copied) (s .from) (s .to)
+  pub text : between work (length markdown) (length markdown + (s .to - s .from)) ≡ text-of markdown work₀ (s .copied) (s .from) (s .to)
   pub below : take (length markdown) work ≡ take (length markdown) work₀
   pub size : length work ≡ length work₀
 

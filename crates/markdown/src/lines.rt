@@ -5,7 +5,8 @@ ghost use mathlib.Core.Path.{_≡_};
 ghost use lib.ListN.{length, take, drop};
 ghost use Rattle.text.specs.Words.{all, starts-with};
 ghost use Rattle.text.specs.Run.{RunTo};
-ghost use Rattle.markdown.specs.Parts.{part, source, text-of, quiet, Inside, PastIs, CommentedIs, LineIs};
+ghost use Rattle.text.specs.Part.{between};
+ghost use Rattle.markdown.specs.Parts.{source, text-of, quiet, Inside, PastIs, CommentedIs, LineIs};
 
 // A line: a part of the Markdown, or, where a comment was removed from it, of the work buffer; and where the next line starts.
 pub struct Line {
@@ -157,7 +158,7 @@ pub(crate) fn next_line(markdown: &[u8], i: usize, work: &mut [u8]) -> Line
 // Stores the part from `from` to `to` of the buffer from `at` on, behind that part.
 fn copy_part(work: &mut [u8], from: usize, to: usize, at: usize)
     requires { ⌜ (from ≤ to) × ((to ≤ at) × (at + (to - from) ≤ length (now work))) ⌝ }
-    ensures { λ _. ⌜ now (work .exit) ≡ sets (now (work .entry)) at (part (now (work .entry)) from to) ⌝ }
+    ensures { λ _. ⌜ now (work .exit) ≡ sets (now (work .entry)) at (between (now (work .entry)) from to) ⌝ }
 {
     let n = to - from;
     let mut i = 0;

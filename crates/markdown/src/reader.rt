@@ -11,7 +11,8 @@ ghost use Rattle.records.specs.Blocks.{Paragraph, Item};
 ghost use Rattle.spans.specs.Spans.{spans};
 ghost use Rattle.markdown.specs.Blocks.{added, row, heading, paragraph, read-text, read-line};
 ghost use Rattle.markdown.specs.Cells.{RowMade};
-ghost use Rattle.markdown.specs.Parts.{part, text-of};
+ghost use Rattle.text.specs.Part.{between};
+ghost use Rattle.markdown.specs.Parts.{text-of};
 ghost use Rattle.markdown.specs.Shape.{mark, MarkerAt};
 ghost use Rattle.markdown.specs.State.{Safe, Given, LineGiven, Owned, Steps, grown, ends, starts-with-text};
 use crate::lines::Line;
@@ -64,7 +65,7 @@ fn item_line<'a>(
 ) -> State
     requires { ⌜ (Safe (now markdown) (now work) s × (s .at ≤ 300000000000)) × ((length (now line) ≤ 65536) × MarkerAt (now line) depth at stop from to) ⌝ }
     ensures { λ r. ⌜ Steps (now (markdown .entry)) (now (work .entry)) (now (work .entry)) (now (out .entry)) (now (out .exit)) s r 800000 0
-        (added (Item depth (mark (part (now (line .entry)) at stop)) (spans (chars (part (now (line .entry)) from to))))) ⌝ }
+        (added (Item depth (mark (between (now (line .entry)) at stop)) (spans (chars (between (now (line .entry)) from to))))) ⌝ }
 {
     let p = flush(markdown, work, out, s);
     put_item(&line[at..stop], &line[from..to], out, p, depth)

@@ -3,7 +3,7 @@ ghost use Prim.Native.Nat.{_+_, _-_, _*_, _≤_};
 ghost use mathlib.Core.Path.{_≡_};
 ghost use lib.ListN.{length, take};
 ghost use Rattle.text.specs.Words.{trim-end-matches};
-ghost use Rattle.markdown.specs.Parts.{part};
+ghost use Rattle.text.specs.Part.{between};
 ghost use Rattle.markdown.specs.Cells.{bar-size, dot-bytes, CellsIs, RowIs};
 ghost use Rattle.text.specs.Utf8.{chars, Scalars};
 ghost use lib.Seq.{sets};
@@ -70,7 +70,7 @@ fn put_cells(work: &mut [u8], a: usize, b: usize, at: usize) -> usize
 
 // Stores the row of a table that the part from `from` to `to` of the buffer is, as above.
 pub(crate) fn put_row(work: &mut [u8], from: usize, to: usize, at: usize) -> usize
-    requires { ⌜ (from ≤ to) × ((to ≤ at) × ((at + 4 * (to - from) ≤ length (now work)) × Scalars (chars (part (now work) from to)))) ⌝ }
+    requires { ⌜ (from ≤ to) × ((to ≤ at) × ((at + 4 * (to - from) ≤ length (now work)) × Scalars (chars (between (now work) from to)))) ⌝ }
     ensures { λ r. ⌜ RowIs (now (work .entry)) (now (work .exit)) from to at r ⌝ }
 {
     let a = from + run_of(&work[from..to], b'|');

@@ -42,19 +42,13 @@ pub(crate) fn run_of(s: &[u8], b: u8) -> usize
     i
 }
 
-fn is_digit(b: u8) -> bool
-    ensures { λ r. ⌜ r ≡ is-digit b ⌝ }
-{
-    (48 <= b) & (b <= 57)
-}
-
 // How many digits s starts with.
 fn digits_of(s: &[u8]) -> usize
     ensures { λ r. ⌜ r ≡ length (take-while is-digit (now (s .entry))) ⌝ }
 {
     let mut i = 0;
     while i < s.len() {
-        if !is_digit(s[i]) {
+        if !text::is_digit(s[i]) {
             return i;
         }
         i += 1;

@@ -13,7 +13,8 @@ use Rattle.text.specs.Utf8.{size, chars}
 use Rattle.text.proofs.Lists.{drop-next}
 use Rattle.records.specs.Format.{is-marker}
 use Rattle.records.specs.Decode.{Parse, u16, u32, level-at, marker-at, item-at, kind-at, count-at, head-at, parsed}
-use Rattle.records.specs.Readers.{NumberIs, between, Within, KindIs, kind-of, kind-ended, kind-parse, kind-read-placed, kind-placed, HeadIs}
+use Rattle.text.specs.Part.{between}
+use Rattle.records.specs.Readers.{NumberIs, Within, KindIs, kind-of, kind-ended, kind-parse, kind-read-placed, kind-placed, HeadIs}
 use Rattle.records.specs.declared.fields.Number.{Number}
 use Rattle.records.specs.declared.fields.Number.the-variants.{Value, Bad}
 use Rattle.records.specs.declared.reader.Kind as K

@@ -14,7 +14,8 @@ use Rattle.records.specs.Format.{encode-span, encode-spans, bit}
 use Rattle.records.specs.Decode.{Parse, failed, parsed, span-at, spans-at, kind-at, count-at, head-at, block-at}
 use Rattle.records.specs.Answers.{Answer, at-end, refused, gives, map, Emphasis, placed, found-at, marker-of, text-or-none, marker-answer, emphasis-of, nth, nth-of, span-in, text-answer}
 use Rattle.records.specs.Places.{nowhere, range-or-none, marker-from, marker-range, marker-place, span-from, text-range, nth-range, text-place, here-answer}
-use Rattle.records.specs.Readers.{between, Within}
+use Rattle.text.specs.Part.{between}
+use Rattle.records.specs.Readers.{Within}
 use Rattle.records.specs.declared.walker.Range.{Range}
 use Rattle.records.proofs.Decoded.{not-failed, only-inv, then-inv}
 use Rattle.records.proofs.Placed.{After, Ends, after-length, then-after, then-ends, kind-bytes, kind-ends, count-after, span-ends}

@@ -15,7 +15,8 @@ use Rattle.text.proofs.Laws.{chars-nil, size-chars}
 use Rattle.text.proofs.Lists.{drop-next}
 use Rattle.records.specs.Blocks.{Span}
 use Rattle.records.specs.Decode.{Parse, _▹_, u32, part, text-at, span-at, spans-at, failed, parsed}
-use Rattle.records.specs.Readers.{NumberIs, number-parse, number-next, between, Within, PartIs, part-placed, SpanIs, span-with, span-parse, span-placed, rest}
+use Rattle.text.specs.Part.{between}
+use Rattle.records.specs.Readers.{NumberIs, number-parse, number-next, Within, PartIs, part-placed, SpanIs, span-with, span-parse, span-placed, rest}
 use Rattle.records.specs.declared.fields.Number.{Number}
 use Rattle.records.specs.declared.fields.Number.the-variants.{Value, Bad}
 use Rattle.records.specs.declared.reader.Part.{Part}

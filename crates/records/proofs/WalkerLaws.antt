@@ -18,7 +18,8 @@ use Rattle.records.specs.Format.{encode-span, encode-spans}
 use Rattle.records.specs.Decode.{failed, parsed, span-at, spans-at, head-at, block-at}
 use Rattle.records.specs.Answers.{Answer, at-end, refused, gives, map, level-of, depth-of, emphasis-of, found-at, block-answer, nth, span-in, span-answer}
 use Rattle.records.specs.Places.{nowhere, range-or-none, marker-from, marker-range, marker-place, span-from, text-range, text-place, first-answer, here-answer}
-use Rattle.records.specs.Readers.{between, Within, SpanIs, span-parse, span-placed, rest, EndIs, end-parse, kind-of, kind-placed, Found, NthIs, nth-asked, nth-at}
+use Rattle.text.specs.Part.{between}
+use Rattle.records.specs.Readers.{Within, SpanIs, span-parse, span-placed, rest, EndIs, end-parse, kind-of, kind-placed, Found, NthIs, nth-asked, nth-at}
 use Rattle.records.specs.declared.reader.Kind as K
 use Rattle.records.specs.declared.reader.Kind.the-variants as KV
 use Rattle.records.specs.declared.reader.SpansEnd.{SpansEnd}

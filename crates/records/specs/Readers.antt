@@ -3,6 +3,7 @@
 use Prim.Native.Nat.{ℕ, _+_, _-_, _/_, _%_, _≤_}
 use mathlib.Core.Path.{_≡_}
 use mathlib.Core.List.{List}
+use Rattle.text.specs.Part.{between}
 use lib.ListN.{length, take, drop}
 use lib.Dec.{eqb}
 use Rattle.text.specs.Utf8.{chars}
@@ -30,10 +31,7 @@ use Rattle.records.specs.declared.walker.Range.{Range}
 use Rattle.records.specs.declared.walker.Nth.{Nth}
 use Rattle.records.specs.declared.walker.Nth.the-variants as N
 
--- the bytes from an offset up to another, and that they stand in the records
-abbrev pub between : List ℕ → ℕ → ℕ → List ℕ
-between s start end = take (end - start) (drop start s)
-
+-- a part stands in the records
 abbrev pub Within : List ℕ → ℕ → ℕ → Type 0
 Within s start end = (start ≤ end) × (end ≤ length s)
 

@@ -2,7 +2,6 @@
 ghost use mathlib.Core.Path.{_≡_};
 ghost use Prim.Native.Nat.{_+_, _-_, _*_, _<_, _≤_};
 ghost use lib.ListN.{length, drop, getD};
-ghost use Rattle.text.specs.Chars.{is-digit};
 ghost use Rattle.text.specs.Utf8.{chars};
 ghost use Rattle.records.specs.Format.{is-bullet, digits-stop, is-marker};
 ghost use Rattle.records.specs.Decode.{u16, u32};
@@ -76,12 +75,6 @@ fn is_bullet(m: &[u8]) -> bool
     text::starts_with(m, 0, b"\xE2\x80\xA2")
 }
 
-fn is_digit(b: u8) -> bool
-    ensures { λ r. ⌜ r ≡ is-digit b ⌝ }
-{
-    (48 <= b) & (b <= 57)
-}
-
 // Digits, and a full stop at the end.
 fn digits_stop(m: &[u8]) -> bool
     ensures { λ r. ⌜ r ≡ digits-stop (now (m .entry)) ⌝ }
@@ -92,7 +85,7 @@ fn digits_stop(m: &[u8]) -> bool
     let last = m.len() - 1;
     let mut i: usize = 0;
     while i < last {
-        if !is_digit(m[i]) {
+        if !text::is_digit(m[i]) {
             return false;
         }
         i += 1;

@@ -16,8 +16,7 @@ use Rattle.text.specs.Utf8.{chars}
 use Rattle.text.proofs.Tests.{decide, on, within-true, then-some, ensure-some, starts-split}
 use Rattle.text.proofs.Laws.{encode-chars}
 use Rattle.text.proofs.AsciiLaws.{encode-ascii, chars-same, ascii-append, ascii-true, ascii-is}
-use Rattle.reference.specs.Unescape.{digit, digits, from-str-radix, named}
-use Rattle.reference.specs.Answers.{some-digits, written}
+use Rattle.reference.specs.Unescape.{digit, digits, from-str-radix, named, some-digits, written}
 use Rattle.reference.proofs.NameLaws.{Word, amp, lt, gt, quot, apos, nbsp, spelling, Kind, word, other, kind, named-other, plain, number-written}
 use Rattle.reference.proofs.DigitLaws.{from-plus, from-other}
 

@@ -16,8 +16,7 @@ use lib.Seq.{drop-cons, drop-drop}
 use Rattle.text.specs.Words.{starts}
 use Rattle.text.specs.Chars.{within}
 use Rattle.text.proofs.Tests.{decide, within-true}
-use Rattle.reference.specs.Unescape.{digit, digits, from-str-radix}
-use Rattle.reference.specs.Answers.{some-digits}
+use Rattle.reference.specs.Unescape.{digit, digits, from-str-radix, some-digits}
 
 -- ---- one digit
 module _ (c : ℕ) where

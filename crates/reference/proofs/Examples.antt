@@ -8,7 +8,7 @@ use mathlib.Core.Path.{_≡_, refl}
 use Rattle.text.specs.Words.{str, index}
 use Rattle.text.specs.Chars.{is-scalar, is-control}
 use Rattle.text.specs.Utf8.{utf8, size}
-use Rattle.reference.specs.Unescape.{digit, digits, from-str-radix, names, number, named, reference, unescaped, unescape}
+use Rattle.reference.specs.Unescape.{digit, digits, some-digits, from-str-radix, names, written, number, named, reference, unescaped, unescape}
 use Rattle.reference.specs.Standard.{standard}
 
 -- `unescape` on texts: specimens and READINGS 17 to 19
@@ -21,7 +21,7 @@ pub unescape-rows :
     ∷ [])
     ≡ str "&lt;" ∷ str "A" ∷ str "&#000000065;" ∷ str "&#10;" ∷ str "a b" ∷ str "AA" ∷ str "&#+x41;&#++65;&#+;&#-0;&#;&#x;" ∷ str "&am" ∷ str "&<;"
     ∷ []
-unfolding unescape unescaped reference named names number from-str-radix digits digit index is-scalar is-control size utf8
+unfolding unescape unescaped reference named names number written from-str-radix some-digits digits digit index is-scalar is-control size utf8
 unescape-rows = refl
 
 -- what follows an `&`: the step, and the standard's
@@ -45,7 +45,7 @@ pub same-rows :
     ∷ (none, none)
     ∷ (none, none)
     ∷ []
-unfolding reference standard named names number from-str-radix digits digit index is-scalar is-control size utf8
+unfolding reference standard named names number written from-str-radix some-digits digits digit index is-scalar is-control size utf8
 same-rows = refl
 
 pub other-rows :
@@ -62,5 +62,5 @@ pub other-rows :
     ∷ (none, some (0xFFFD, 9))
     ∷ (none, some (65, 11))
     ∷ []
-unfolding reference standard named names number from-str-radix digits digit index is-scalar is-control size utf8
+unfolding reference standard named names number written from-str-radix some-digits digits digit index is-scalar is-control size utf8
 other-rows = refl

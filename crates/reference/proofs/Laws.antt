@@ -15,8 +15,7 @@ use Rattle.text.specs.Utf8.{IsScalar, utf8, size, chars}
 use Rattle.text.proofs.Tests.{on, and-true, then-some, ensure-some}
 use Rattle.text.proofs.Laws.{scalar-true, utf8-size, advance-ascii, size-append, size-length}
 use Rattle.text.proofs.AsciiLaws.{chars-same}
-use Rattle.reference.specs.Unescape.{from-str-radix, names, named, reference, unescaped, unescape}
-use Rattle.reference.specs.Answers.{written}
+use Rattle.reference.specs.Unescape.{some-digits, from-str-radix, names, written, named, reference, unescaped, unescape}
 use Rattle.reference.proofs.SplitLaws.{Without, First, missing, here, first, chars-here}
 use Rattle.reference.proofs.NameLaws.{Word, amp, lt, gt, quot, apos, nbsp, spelling, meant, Kind, word, other, kind, named-word, named-other, plain, number-written}
 use Rattle.reference.proofs.AsciiNames.{named-ascii, sized}
@@ -54,7 +53,7 @@ word-long apos = omega arith
 word-long nbsp = omega arith
 
 from-long : (radix : ℕ) (s : List ℕ) (n : ℕ) → from-str-radix radix s ≡ some n → 1 ≤ length s
-unfolding from-str-radix
+unfolding from-str-radix some-digits
 from-long radix [] n e = let z : _≡_ {A = ℕ} 0 1 = cc in absurd (omega arith)
 from-long radix (c ∷ s) n e = omega arith
 

@@ -14,8 +14,7 @@ use lib.ListN.{length, drop}
 use Rattle.text.specs.Words.{if_then_else_, _>>=_, ensure, case, str, same, starts-with, starts, lookup}
 use Rattle.text.specs.Chars.{is-scalar, is-control}
 use Rattle.text.proofs.Tests.{decide, same-true}
-use Rattle.reference.specs.Unescape.{from-str-radix, names, number, named}
-use Rattle.reference.specs.Answers.{is-hexadecimal, written}
+use Rattle.reference.specs.Unescape.{from-str-radix, names, number, named, is-hexadecimal, written}
 
 -- ---- texts of one length, of which one starts with the other
 eqb-sym : (c d : ℕ) → eqb c d ≡ eqb d c
@@ -53,15 +52,8 @@ abbrev pub plain : ℕ → Option ℕ
 plain c = ensure (is-scalar c && not (is-control c)) >>= λ _. some c
 
 pub number-written : (name : List ℕ) → number name ≡ written name >>= plain
-unfolding number written
-number-written name = by (starts "#" name)
-  where
-    by : (t : Bool)
-        → (ensure t >>= λ _.
-        (if starts "#x" name || starts "#X" name then from-str-radix 16 (drop 2 name) else from-str-radix 10 (drop 1 name)) >>= plain)
-        ≡ ((ensure t >>= λ _. (if starts "#x" name || starts "#X" name then from-str-radix 16 (drop 2 name) else from-str-radix 10 (drop 1 name))) >>= plain)
-    by true = refl
-    by false = refl
+unfolding number
+number-written name = refl
 
 module _ (name : List ℕ) where
   pub number-none : written name ≡ none → number name ≡ none

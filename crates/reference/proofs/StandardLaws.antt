@@ -15,8 +15,7 @@ use Rattle.text.specs.Words.{if_then_else_, _>>=_, ensure, case, str, is, any, 
 use Rattle.text.specs.Chars.{within, is-control}
 use Rattle.text.specs.Utf8.{size}
 use Rattle.text.proofs.Tests.{decide, and-true, or-elim, or-right, within-true, within-is, then-some, same-true}
-use Rattle.reference.specs.Unescape.{names, number, named, reference}
-use Rattle.reference.specs.Answers.{written}
+use Rattle.reference.specs.Unescape.{names, number, named, reference, written}
 use Rattle.reference.specs.Standard.{end-state, numeric, entities, standard-named, standard, name-of, far, no-number, refused, signed, unsigned, own}
 use Rattle.reference.proofs.SplitLaws.{Without, First, missing, here, first, index-missing, index-here}
 use Rattle.reference.proofs.NameLaws.{Word, amp, lt, gt, quot, apos, nbsp, spelling, meant, Other, Kind, word, other, kind, named-word, named-other, plain, number-written}

@@ -14,8 +14,7 @@ use Rattle.text.specs.Words.{if_then_else_, _>>=_, ensure, str, is, starts-with
 use Rattle.text.specs.Chars.{within, is-scalar, is-control}
 use Rattle.text.proofs.Tests.{decide, on, and-true, and-false, or-elim, within-true, within-is, within-below, or-neither, starts-split}
 use Rattle.text.proofs.Laws.{scalar-is}
-use Rattle.reference.specs.Unescape.{digit, digits, from-str-radix}
-use Rattle.reference.specs.Answers.{some-digits, written}
+use Rattle.reference.specs.Unescape.{digit, digits, from-str-radix, some-digits, written}
 use Rattle.reference.specs.Standard.{table, row, end-state, decimal-digit, hexadecimal-digit, add-digits, decimal, hexadecimal, numeric, no-number, signed, unsigned}
 use Rattle.reference.proofs.NameLaws.{plain}
 use Rattle.reference.proofs.DigitLaws.{digit-0, digit-a, digit-A, digit-none, digit-high, from-plus, from-other}

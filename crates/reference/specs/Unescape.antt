@@ -3,7 +3,7 @@
 use Prim.Native.Nat.{ℕ, zero, suc, _+_, _-_, _*_}
 use Prim.Native.Char.{Char, code}
 use Prim.Native.String.{String}
-use mathlib.Core.Bool.{_&&_, _||_, not}
+use mathlib.Core.Bool.{Bool, _&&_, _||_, not}
 use mathlib.Core.List.{List, [], _∷_}
 use mathlib.Core.Option.{Option, some}
 use lib.ListN.{take, drop}
@@ -20,19 +20,29 @@ unfoldable pub digits : ℕ → ℕ → List ℕ → Option ℕ
 digits radix v [] = some v
 digits radix v (c ∷ s) = ensure (ltb (digit c) radix) >>= λ _. digits radix (v * radix + digit c) s
 
+-- the number of one digit or more, and `from_str_radix`, which takes a plus before them
+unfoldable pub some-digits : ℕ → List ℕ → Option ℕ
+some-digits radix s = ensure (not (is-empty s)) >>= λ _. digits radix 0 s
+
 unfoldable pub from-str-radix : ℕ → List ℕ → Option ℕ
-from-str-radix radix s =
-    let t = if starts "+" s then drop 1 s else s in
-    ensure (not (is-empty t)) >>= λ _. digits radix 0 t
+from-str-radix radix s = some-digits radix (if starts "+" s then drop 1 s else s)
 
 -- what a name between `&` and `;` stands for
 unfoldable pub names : List (String × Char)
 names = ("amp", "&") ∷ ("lt", "<") ∷ ("gt", ">") ∷ ("quot", "\"") ∷ ("apos", "'") ∷ ("nbsp", " ") ∷ []
 
+-- the number that a name writes, whether a character has it or not
+abbrev pub is-hexadecimal : List ℕ → Bool
+is-hexadecimal name = starts "#x" name || starts "#X" name
+
+unfoldable pub written : List ℕ → Option ℕ
+written name =
+    ensure (starts "#" name) >>= λ _.
+    (if is-hexadecimal name then from-str-radix 16 (drop 2 name) else from-str-radix 10 (drop 1 name))
+
 unfoldable pub number : List ℕ → Option ℕ
 number name =
-    ensure (starts "#" name) >>= λ _.
-    (if starts "#x" name || starts "#X" name then from-str-radix 16 (drop 2 name) else from-str-radix 10 (drop 1 name)) >>= λ c.
+    written name >>= λ c.
     ensure (is-scalar c && not (is-control c)) >>= λ _.
     some c
 

@@ -4,8 +4,8 @@ ghost use mathlib.Core.Path.{_≡_};
 ghost use lib.ListN.{length, take, drop};
 ghost use Rattle.text.specs.Words.{same};
 ghost use Rattle.text.specs.Utf8.{chars};
-ghost use Rattle.reference.specs.Unescape.{digit, from-str-radix, number, named, reference};
-ghost use Rattle.reference.specs.Answers.{answer, value, some-digits, is-hexadecimal, written};
+ghost use Rattle.reference.specs.Unescape.{digit, from-str-radix, number, named, reference, some-digits, is-hexadecimal, written};
+ghost use Rattle.reference.specs.Answers.{answer, value};
 use text::Found;
 
 // What becomes of an `&`.

@@ -11,7 +11,7 @@ use Rattle.text.specs.Utf8.{size, utf8, encode, starts3, starts4, char-of, char
 use Rattle.text.specs.Cut.{cut}
 use Rattle.text.specs.Decimal.{digits}
 use Rattle.text.specs.Outcome.{Outcome, refused, wrote}
-use Rattle.reference.specs.Unescape.{digit, digits as number-digits, from-str-radix, names, number, named, reference, unescaped, unescape}
+use Rattle.reference.specs.Unescape.{digit, digits as number-digits, some-digits, from-str-radix, names, written as number-written, number, named, reference, unescaped, unescape}
 use Rattle.html.specs.State.{line-start, block, newline, spaced, marks, special, opens, ends-with-digit, escape, put, blank, paused, next, put-all, text, tags, tag-of, list-changed, item, tag}
 use Rattle.html.specs.Page.{listed, shown as shown-tag, skipped, element, inside, words, comment, a-tag, markup, turn, loop, finish, html-to-markdown}
 use Rattle.html.specs.Calls.{converted as converted-page, with-buffers as page-buffers, html-to-markdown-call}
@@ -80,5 +80,5 @@ specimens =
     ∷ []
 
 pub specimens-hold : map (λ r. shown (r .0)) specimens ≡ map (λ r. r .1) specimens
-unfolding shown index take-while drop-while trim-end-matches is-space is-control is-scalar size utf8 decode starts3 starts4 char-of char scan chars is-utf8 cut digits digit number-digits from-str-radix names number named reference unescaped unescape line-start block newline spaced marks special opens ends-with-digit escape put blank paused next put-all text tags tag-of list-changed item tag listed shown-tag skipped element inside words comment a-tag markup turn loop finish html-to-markdown converted-page page-buffers html-to-markdown-call encode-span encode-spans encode-block encode-blocks link code-step star-step link-step image-step step flush walk spans-at spans is-rule marker-at list-marker comment-here cleaned lines replace row flush-paragraph heading paragraph continuation read-text read-line read-lines blocks recorded-blocks markdown-buffers blocks-call many shown-char singles first-is last-is fits apart first-letter last-no-blank neat own sheet-char referred sheet-text kind one-run line sheet-item list-of read-list headed read-heading read-para sheet-block read-page rows-from rows escaped written-runs joined written small sheet sheet-call
+unfolding shown index take-while drop-while trim-end-matches is-space is-control is-scalar size utf8 decode starts3 starts4 char-of char scan chars is-utf8 cut digits digit number-digits some-digits from-str-radix names number-written number named reference unescaped unescape line-start block newline spaced marks special opens ends-with-digit escape put blank paused next put-all text tags tag-of list-changed item tag listed shown-tag skipped element inside words comment a-tag markup turn loop finish html-to-markdown converted-page page-buffers html-to-markdown-call encode-span encode-spans encode-block encode-blocks link code-step star-step link-step image-step step flush walk spans-at spans is-rule marker-at list-marker comment-here cleaned lines replace row flush-paragraph heading paragraph continuation read-text read-line read-lines blocks recorded-blocks markdown-buffers blocks-call many shown-char singles first-is last-is fits apart first-letter last-no-blank neat own sheet-char referred sheet-text kind one-run line sheet-item list-of read-list headed read-heading read-para sheet-block read-page rows-from rows escaped written-runs joined written small sheet sheet-call
 specimens-hold = refl

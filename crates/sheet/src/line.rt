@@ -138,19 +138,12 @@ fn glyph_at(page: &[u8], at: usize) -> Glyph
     reference_at(page, at)
 }
 
-// `\`, `*`, backtick, `[` or `!`.
-fn is_special(c: u32) -> bool
-    ensures { λ r. ⌜ r ≡ special c ⌝ }
-{
-    (c == 92) | (c == 42) | (c == 96) | (c == 91) | (c == 33)
-}
-
 // The counts of a character's written form.
 fn weight_of(c: u32) -> Count
     ensures { λ r. ⌜ r ≡ weight (escaped (c ∷ [])) ⌝ }
 {
     let n = text::width(c);
-    if is_special(c) {
+    if html::special(c) {
         return Count {
             bytes: n + 1,
             chars: 2,
@@ -190,7 +183,7 @@ fn pushed(g: Gist, c: u32) -> Gist
         first: pick(g.any, g.first, c),
         last: c,
         single: g.single & !(g.any & ((g.last == 32) & (c == 32))),
-        calm: g.calm & !is_special(c),
+        calm: g.calm & !html::special(c),
     }
 }
 

@@ -6,6 +6,7 @@ pub mod Trim
 pub mod Find
 pub mod Put
 pub mod Cut
+pub mod Part
 pub mod Decimal
 -- What a call leaves.
 pub mod Outcome

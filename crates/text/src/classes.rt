@@ -1,6 +1,6 @@
 // Classes of characters.
 ghost use mathlib.Core.Path.{_≡_};
-ghost use Rattle.text.specs.Chars.{within, is-space, is-control, is-scalar};
+ghost use Rattle.text.specs.Chars.{within, is-space, is-control, is-scalar, is-digit};
 
 // lo <= x <= hi
 pub fn within(lo: u32, hi: u32, x: u32) -> bool
@@ -34,4 +34,11 @@ pub fn is_scalar(c: u32) -> bool
     ensures { λ r. ⌜ r ≡ is-scalar c ⌝ }
 {
     (c <= 0xD7FF) | within(0xE000, 0x10FFFF, c)
+}
+
+// An ASCII digit.
+pub fn is_digit(b: u8) -> bool
+    ensures { λ r. ⌜ r ≡ is-digit b ⌝ }
+{
+    (b'0' <= b) & (b <= b'9')
 }

@@ -9,6 +9,7 @@ mod trimming;
 
 pub use ascii::ascii_end;
 pub use classes::is_control;
+pub use classes::is_digit;
 pub use classes::is_scalar;
 pub use classes::is_space;
 pub use classes::within;

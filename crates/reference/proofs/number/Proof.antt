@@ -6,7 +6,8 @@ use mathlib.Core.Path.{_≡_, sym, ap, _∙_}
 use borrow.Author.Needs.{needs}
 use borrow.Author.Tests.{not-true, not-false}
 use Rattle.text.specs.Chars.{is-scalar}
-use Rattle.reference.specs.Answers.{value, written}
+use Rattle.reference.specs.Unescape.{written}
+use Rattle.reference.specs.Answers.{value}
 use Rattle.reference.proofs.AnswerLaws.{value-some, value-none}
 use Rattle.reference.proofs.NameLaws.{number-none, number-no-scalar, number-control, number-is}
 use Rattle.reference.proofs.number.Statement.{statement}

@@ -6,9 +6,8 @@ use denote.Ref.{now}
 use Prim.Native.Nat.{_+_, _-_, _≤_}
 use lib.ListN.{length, drop}
 use lib.Seq.{drop-length}
-use Rattle.html.specs.Struct.{closed}
 use Rattle.text.proofs.FindLaws.{found-here, found-nowhere}
-use Rattle.html.proofs.CloseLaws.{closed-none, closed-from, closed-here, closed-next, closed-other, closed-past, arrow-room}
+use Rattle.html.proofs.CloseLaws.{closed, comment-left, closed-none, closed-from, closed-here, closed-next, closed-other, closed-past, arrow-room}
 use borrow.Author.Needs.{needs}
 use Rattle.html.proofs.page.comment_end.Statement.{statement}
 use Rattle.html.proofs.page.comment_end.Tie as tie
@@ -42,7 +41,7 @@ returns c =
     let h = now (c .before .before .before .before .before .before .before .before .args .html) in
     let l = c .before .before .before .before .before .before .loop in
     let s = sym (c .before .starts-with .ensures) ∙ c .if2 .taken in
-    (sym (closed-here h (l .j) (c .before .before .before .before .before .loop-test .taken) s) ∙ l .inv .0, (omega (arith, l .inv .1 .0), omega (arith, arrow-room h (l .j) s)))
+    (sym (closed-here h (l .j) (c .before .before .before .before .before .loop-test .taken) s) ∙ l .inv .0 ∙ sym (comment-left _), (omega (arith, l .inv .1 .0), omega (arith, arrow-room h (l .j) s)))
 
 add-j : tie.Need-add-j Inv-loop μ-loop
 add-j c = search needs
@@ -73,7 +72,7 @@ returns-2 c =
     let h = now (c .before .before .before .before .before .before .before .before .args .html) in
     let l = c .before .before .before .before .before .before .loop in
     let z = found-nowhere h (l .j + 1) 45 (sym (c .before .before .find .ensures) ∙ c .enum-told .given .1) in
-    (drop-length h ∙ sym (closed-none (drop (l .j + 1) h) z) ∙ sym (closed-other h (l .j) (c .before .before .before .before .before .loop-test .taken) (c .before .before .before .if1 .left)) ∙ l .inv .0, (omega (arith, l .inv .1), omega arith))
+    (drop-length h ∙ sym (closed-none (drop (l .j + 1) h) z) ∙ sym (closed-other h (l .j) (c .before .before .before .before .before .loop-test .taken) (c .before .before .before .if1 .left)) ∙ l .inv .0 ∙ sym (comment-left _), (omega (arith, l .inv .1), omega arith))
 
 loop-less-2 : tie.Need-loop-less-2 Inv-loop μ-loop
 loop-less-2 c =
@@ -95,7 +94,7 @@ returns-3 : tie.Need-returns-3 Inv-loop μ-loop
 returns-3 c =
     let h = now (c .before .before .before .args .html) in
     let l = c .before .loop in
-    (sym (closed-past h (l .j) (c .loop-test .left)) ∙ l .inv .0, l .inv .1)
+    (sym (closed-past h (l .j) (c .loop-test .left)) ∙ l .inv .0 ∙ sym (comment-left _), l .inv .1)
 
 pub comment-end-spec : {M : Type 1} → statement M
 comment-end-spec = tie.close (tie.spec Inv-loop μ-loop loop-holds shared-slice-read-if1 slice-aggregate-starts-with starts-with-requires add-result returns add-j loop-less loop-again add-find find-requires enum-known-dash enum-told returns-2 loop-less-2 loop-again-2 returns-3)

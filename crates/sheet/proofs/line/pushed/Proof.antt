@@ -13,13 +13,13 @@ add-requires c κs = search needs
 pick-requires : tie.Need-pick-requires
 pick-requires c κs = search needs
 
-is-special-requires : tie.Need-is-special-requires
-is-special-requires c κs = search needs
+special-requires : tie.Need-special-requires
+special-requires c κs = search needs
 
 returns : tie.Need-returns
 returns c =
-    rw (c .before .before .before .before .before .before .add .ensures, c .before .before .before .before .before .before .before .weight-of .ensures, c .before .before .before .before .before .pick .ensures, c .before .is-special .ensures)
+    rw (c .before .before .before .before .before .before .add .ensures, c .before .before .before .before .before .before .before .weight-of .ensures, c .before .before .before .before .before .pick .ensures, c .before .special .ensures)
 
 pub pushed-spec : {M : Type 1} → statement M
 pushed-spec =
-    tie.close (tie.spec weight-of-requires add-requires pick-requires is-special-requires returns)
+    tie.close (tie.spec weight-of-requires add-requires pick-requires special-requires returns)

@@ -11,8 +11,8 @@ use Rattle.sheet.proofs.line.weight_of.Tie as tie
 width-requires : tie.Need-width-requires
 width-requires c κs = search needs
 
-is-special-requires : tie.Need-is-special-requires
-is-special-requires c κs = search needs
+special-requires : tie.Need-special-requires
+special-requires c κs = search needs
 
 add-t4 : tie.Need-add-t4
 add-t4 c =
@@ -23,12 +23,12 @@ add-t4 c =
 returns : tie.Need-returns
 returns c =
     let a = c .before .before .before .args in
-    weight-special (a .c) (sym (c .before .is-special .ensures) ∙ c .if1 .taken) (c .before .before .width .ensures)
+    weight-special (a .c) (sym (c .before .special .ensures) ∙ c .if1 .taken) (c .before .before .width .ensures)
 
 returns-2 : tie.Need-returns-2
 returns-2 c =
     let a = c .before .before .before .args in
-    weight-other (a .c) (sym (c .before .is-special .ensures) ∙ c .if1 .left) (c .before .before .width .ensures)
+    weight-other (a .c) (sym (c .before .special .ensures) ∙ c .if1 .left) (c .before .before .width .ensures)
 
 pub weight-of-spec : {M : Type 1} → statement M
-weight-of-spec = tie.close (tie.spec width-requires is-special-requires add-t4 returns returns-2)
+weight-of-spec = tie.close (tie.spec width-requires special-requires add-t4 returns returns-2)
