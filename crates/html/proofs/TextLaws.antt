@@ -392,9 +392,6 @@ plain-is b =
     (λ e. plain-in 97 122 b e (λ l h. record { low = omega arith; high = omega arith; not-62 = λ q. omega arith; not-91 = λ q. omega arith; not-92 = λ q. omega arith; not-96 = λ q. omega arith })))
 
 module _ (b : ℕ) (h : is-alphanumeric b ≡ true) where
-  pub plain-ascii : b < 0x80
-  plain-ascii = let p = plain-is b h in omega (arith, p .high)
-
   pub plain-not-and : b ≡ 38 → ⊥
   plain-not-and q = let p = plain-is b h in omega (arith, p .low)
 

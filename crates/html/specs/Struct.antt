@@ -7,7 +7,7 @@ use mathlib.Core.List.{List, [], _∷_, _++_, reverse, reverseAux, tail}
 use mathlib.Core.Option.{Option, none, some}
 use lib.Dec.{leb}
 use lib.ListN.{length, getD, drop}
-use Rattle.text.specs.Words.{if_then_else_, str, is, starts, drop-while}
+use Rattle.text.specs.Words.{if_then_else_, str, is, drop-while}
 use Rattle.text.specs.Utf8.{chars}
 use Rattle.html.specs.State.{State, with-out, list-changed, heading, marked, para, pre, br, ul, ol, li, tr, cell, code, other}
 use Rattle.html.specs.State as state

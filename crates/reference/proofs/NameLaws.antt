@@ -3,7 +3,7 @@
 use Prim.Native.Nat.{ℕ}
 use Prim.Native.Char.{Char, code}
 use Prim.Native.String.{String}
-use mathlib.Core.Bool.{Bool, true, false, _&&_, _||_, not}
+use mathlib.Core.Bool.{Bool, true, false, _&&_, not}
 use mathlib.Core.List.{List, [], _∷_}
 use mathlib.Core.Logic.{⊎-elim}
 use mathlib.Core.Option.{Option, none, some}
@@ -11,7 +11,7 @@ use mathlib.Core.Path.{_≡_, refl, sym, _∙_}
 use borrow.Author.Tests.{eqb-true, eqb-false, eq-eqb, ne-eqb}
 use lib.Dec.{eqb, eqb·zero-suc, eqb·suc-zero, eqb·suc-suc}
 use lib.ListN.{length, drop}
-use Rattle.text.specs.Words.{if_then_else_, _>>=_, ensure, case, str, same, starts-with, starts, lookup}
+use Rattle.text.specs.Words.{_>>=_, ensure, case, str, same, starts-with, starts, lookup}
 use Rattle.text.specs.Chars.{is-scalar, is-control}
 use Rattle.text.proofs.Tests.{decide, same-true}
 use Rattle.reference.specs.Unescape.{from-str-radix, names, number, named, is-hexadecimal, written}

@@ -1,11 +1,10 @@
 -- `is_plain` meets its contract.
 -- Assumes nothing.
 use mathlib.Core.Path.{ap}
-use mathlib.Core.Bool.{Bool, not}
+use mathlib.Core.Bool.{not}
 use lib.Dec.{eqb}
 use Rattle.text.proofs.Tests.{or-five}
 use Rattle.spans.specs.State.{plain}
-use borrow.Author.Needs.{needs}
 use Rattle.spans.proofs.is_plain.Statement.{statement}
 use Rattle.spans.proofs.is_plain.Tie as tie
 

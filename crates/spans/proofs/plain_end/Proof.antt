@@ -1,10 +1,10 @@
 -- `plain_end` meets its contract: what was passed is plain.
 -- Assumes nothing.
-use mathlib.Core.Path.{_≡_, refl, sym, _∙_}
+use mathlib.Core.Path.{_≡_, sym, _∙_}
 use native.Mathlib.Omega.{arith}
 use Prim.Native.Nat.{_-_, _≤_}
 use mathlib.Core.Bool.{true}
-use borrow.Author.Tests.{not-true, not-false}
+use borrow.Author.Tests.{not-false}
 use lib.ListN.{length, take, drop}
 use Rattle.text.specs.Words.{all}
 use Rattle.spans.specs.State.{plain}

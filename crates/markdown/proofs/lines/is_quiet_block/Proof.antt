@@ -7,7 +7,6 @@ use lib.ListN.{take, drop}
 use Rattle.text.specs.Words.{all}
 use Rattle.text.proofs.RunLaws.{block-next}
 use Rattle.markdown.specs.Parts.{quiet}
-use borrow.Author.Needs.{needs}
 use Rattle.markdown.proofs.lines.is_quiet_block.Statement.{statement}
 use Rattle.markdown.proofs.lines.is_quiet_block.Tie as tie
 

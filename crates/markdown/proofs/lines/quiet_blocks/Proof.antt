@@ -8,7 +8,6 @@ use lib.ListN.{length}
 use Rattle.text.specs.Run.{RunTo}
 use Rattle.text.proofs.RunLaws.{at-start, past-block}
 use Rattle.markdown.specs.Parts.{quiet}
-use borrow.Author.Needs.{needs}
 use Rattle.markdown.proofs.lines.quiet_blocks.Statement.{statement}
 use Rattle.markdown.proofs.lines.quiet_blocks.Tie as tie
 

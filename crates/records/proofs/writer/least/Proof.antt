@@ -1,7 +1,6 @@
 -- `writer::least` meets its contract.
 -- Assumes nothing.
 use native.Mathlib.Omega.{arith}
-use borrow.Author.Needs.{needs}
 use Rattle.records.proofs.writer.least.Statement.{statement}
 use Rattle.records.proofs.writer.least.Tie as tie
 

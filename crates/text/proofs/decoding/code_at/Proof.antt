@@ -4,7 +4,6 @@ use native.Mathlib.Omega.{arith}
 use mathlib.Core.Path.{sym, _∙_}
 use Rattle.text.proofs.Utf8.{char-past, char-four}
 use Rattle.text.proofs.Laws.{code-is, code-end}
-use borrow.Author.Needs.{needs}
 use Rattle.text.proofs.decoding.code_at.Statement.{statement}
 use Rattle.text.proofs.decoding.code_at.Tie as tie
 

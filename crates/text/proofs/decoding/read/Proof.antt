@@ -1,7 +1,7 @@
 -- `text::read` meets its contract.
 -- Assumes nothing.
 use native.Mathlib.Omega.{arith}
-use mathlib.Core.Path.{sym, ap, _∙_}
+use mathlib.Core.Path.{sym}
 use Rattle.text.proofs.Utf8.{char-past}
 use Rattle.text.proofs.Laws.{char-code-is}
 use borrow.Author.Needs.{needs}

@@ -1,6 +1,6 @@
 -- `text::size_at` meets its contract.
 -- Assumes nothing.
-use mathlib.Core.Path.{sym, ap, _∙_}
+use mathlib.Core.Path.{sym, ap}
 use Rattle.text.specs.Utf8.{size-of}
 use Rattle.text.proofs.Utf8.{char-past}
 use Rattle.text.proofs.Laws.{size-code}

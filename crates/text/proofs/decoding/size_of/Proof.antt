@@ -1,6 +1,6 @@
 -- `text::size_of` meets its contract: by the range of the first byte.
 -- Assumes nothing.
-use mathlib.Core.Path.{_≡_, refl, sym, ap, _∙_}
+use mathlib.Core.Path.{_∙_}
 use borrow.Author.Tests.{le-leb}
 use Rattle.text.specs.Utf8.{char-of}
 use Rattle.text.proofs.Utf8.{two-bytes, three-bytes, four-bytes}

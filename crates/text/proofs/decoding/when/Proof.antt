@@ -1,7 +1,5 @@
 -- `text::when` meets its contract.
 -- Assumes nothing.
-use mathlib.Core.Path.{_≡_, refl}
-use borrow.Author.Needs.{needs}
 use Rattle.text.proofs.decoding.when.Statement.{statement}
 use Rattle.text.proofs.decoding.when.Tie as tie
 

@@ -5,8 +5,6 @@ use Rattle.text.specs.Cut.{splits}
 use borrow.Author.Needs.{needs}
 use Rattle.text.proofs.parts.is_split.Statement.{statement}
 use Rattle.text.proofs.parts.is_split.Tie as tie
-use Rattle.text.proofs.parts.is_split.Reads as reads
-use Rattle.text.proofs.parts.is_split.Lts as lts
 
 -- src/lib.rt:418:9
 returns : tie.Need-returns

@@ -1,6 +1,6 @@
 -- `text::space_at` meets its contract.
 -- Assumes nothing.
-use mathlib.Core.Path.{sym, _∙_}
+use mathlib.Core.Path.{sym}
 use Rattle.text.proofs.TrimLaws.{space-code}
 use borrow.Author.Needs.{needs}
 use Rattle.text.proofs.trimming.space_at.Statement.{statement}
