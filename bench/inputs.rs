@@ -48,7 +48,7 @@ const LISTS: &str = "<ol>\n<li>one <strong>two</strong>\n<ul>\n<li>three</li>\n<
 const DEEP: &str = concat!(eight!(eight!("<ul><li>a")), eight!(eight!("</ul>")));
 const MARKDOWN: &str = "## Fixes in this release\n\n- The relay **now** keeps its `TMS` setting [as before](https://example.org/7)\nText of *some* length that goes on and on in a line with [a link](u).\n\n";
 
-pub const SERIES: [Series; 35] = [
+pub const SERIES: [Series; 46] = [
     page("release page", RELEASE),
     page("plain text", PROSE),
     page("letters and spaces", "a "),
@@ -60,10 +60,15 @@ pub const SERIES: [Series; 35] = [
     page("stars", "*"),
     page("angle brackets", "<"),
     page("comments", "<!-- a -->"),
+    Series { name: "open comment", kind: Kind::Page, start: "<!--", unit: PROSE },
     Series { name: "open comment of hyphens", kind: Kind::Page, start: "<!--", unit: "-" },
+    page("open tag of e acute", "<é"),
     Series { name: "pre with spaces", kind: Kind::Page, start: "<pre>", unit: "a   " },
     page("line feeds", "\n"),
     page("ideographic spaces", "\u{3000}"),
+    page("line separators", "\u{2028}"),
+    page("no-break spaces", " \u{a0}"),
+    page("commas", ", "),
     page("e acute", "é"),
     page("e acute and letters", "aéb"),
     page("euro signs", "€"),
@@ -81,9 +86,15 @@ pub const SERIES: [Series; 35] = [
     markdown("table rows", "|a|b|\n"),
     markdown("items", "- a\n  b\n"),
     markdown("blank lines", "\n"),
+    markdown("spaces", " "),
+    markdown("indented lines", "    b\n"),
+    markdown("rules", "---\n"),
+    markdown("exclamation marks", "!"),
     markdown("comments in Markdown", "<!-- a -->b\n"),
+    Series { name: "open comment in Markdown", kind: Kind::Markdown, start: "<!--", unit: "a " },
     markdown("e acute in Markdown", "é"),
     markdown("rockets in Markdown", "🚀"),
+    markdown("escaped rockets", "\\🚀"),
 ];
 
 fn words(r: &mut Random, n: usize) -> String {
