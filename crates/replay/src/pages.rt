@@ -2,7 +2,7 @@
 use html::Answer;
 
 pub(crate) fn agrees(page: &[u8], want: usize, answer: &[u8]) -> bool {
-    let mut work = [0u8; 147456];
+    let mut work = [0u8; 49152];
     let mut result = [0u8; 32000];
     match html::html_to_markdown(page, &mut work, &mut result) {
         Answer::Length(n) => (n == want) & check::same(text::front(&result, n), answer),

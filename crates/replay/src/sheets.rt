@@ -4,13 +4,13 @@ use sheet::Verdict;
 
 // Whether the page's Markdown is the first n bytes of the form and records, and its records the others.
 fn goes(page: &[u8], forms: &[u8], n: usize) -> bool {
-    let mut work = [0u8; 147456];
+    let mut work = [0u8; 98304];
     let mut markdown = [0u8; 32000];
     let html::Answer::Length(k) = html::html_to_markdown(page, &mut work, &mut markdown) else {
         return false;
     };
     let written = text::front(&markdown, k);
-    let mut result = [0u8; 262144];
+    let mut result = [0u8; 65536];
     let markdown::Answer::Length(m) = markdown::blocks(written, &mut work, &mut result) else {
         return false;
     };
