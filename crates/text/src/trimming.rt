@@ -14,6 +14,14 @@ pub fn start_of(s: &[u8]) -> usize
 {
     let mut i = 0;
     while i < s.len() {
+        let b = s[i];
+        if b < 0x80 {
+            if !is_space(wide(b)) {
+                return i;
+            }
+            i += 1;
+            continue;
+        }
         let c = code_at(s, i);
         if !is_space(c) {
             return i;
