@@ -8,6 +8,7 @@ pub mod TrimLaws
 pub mod FindLaws
 pub mod PutLaws
 pub mod AsciiLaws
+pub mod SeekLaws
 pub mod CutLaws
 pub mod DecimalLaws
 pub mod Buffer

@@ -1,4 +1,4 @@
--- From offset i to offset j of some bytes all pass p.
+-- What is left of a run, or of a search, from offset i of some bytes on, at offset j.
 -- Assumes nothing.
 use Prim.Native.Nat.{ℕ, _+_, _≤_}
 use mathlib.Core.Bool.{Bool, not}
@@ -6,8 +6,10 @@ use mathlib.Core.Path.{_≡_}
 use mathlib.Core.List.{List}
 use lib.Dec.{eqb}
 use lib.ListN.{length, drop}
-use Rattle.text.specs.Words.{take-while}
+use Rattle.text.specs.Words.{take-while, index}
+use Rattle.text.specs.Find.{found}
 
+-- the bytes from i to j all pass p
 pub record RunTo (p : ℕ → Bool) (s : List ℕ) (i j : ℕ) : Type 0 where
   pub low : i ≤ j
   pub high : j ≤ length s
@@ -16,3 +18,9 @@ pub record RunTo (p : ℕ → Bool) (s : List ℕ) (i j : ℕ) : Type 0 where
 -- any byte but b
 unfoldable pub other : ℕ → ℕ → Bool
 other b x = not (eqb x b)
+
+-- p stands at no place from i up to j
+pub record SeekTo (p s : List ℕ) (i j : ℕ) : Type 0 where
+  pub low : i ≤ j
+  pub high : j ≤ length s
+  pub same : found i (index p (drop i s)) ≡ found j (index p (drop j s))

@@ -26,6 +26,7 @@ pub use parts::first;
 pub use parts::front;
 pub use parts::past;
 pub use search::find;
+pub use search::find3;
 pub use search::starts_with;
 pub use trimming::end_of;
 pub use trimming::start_of;

@@ -1,10 +1,11 @@
 // Bytes searched and compared.
 ghost use Prim.Native.Nat.{_+_, _≤_};
 ghost use mathlib.Core.Path.{_≡_};
+ghost use mathlib.Core.Bool.{true};
 ghost use mathlib.Core.List.{[], _∷_};
 ghost use lib.ListN.{length, take, drop};
 ghost use Rattle.text.specs.Words.{all, starts-with, index};
-ghost use Rattle.text.specs.Run.{RunTo, other};
+ghost use Rattle.text.specs.Run.{RunTo, SeekTo, other};
 ghost use Rattle.text.specs.Find.{found};
 use crate::Found;
 
@@ -62,6 +63,49 @@ pub fn find(s: &[u8], i: usize, b: u8) -> Found
             return Found::Here(e);
         }
         e += 1;
+    }
+    Found::Nowhere
+}
+
+// Whether a b c stand at none of the 32 places from i on, tested as in `is_ascii_block`. Asked only where i is a multiple of 32, so that a near place
+// is found without it.
+fn is_free_block(s: &[u8], i: usize, a: u8, b: u8, c: u8) -> bool
+    requires { ⌜ i ≤ length (now s) ⌝ }
+    ensures { λ r. ⌜ (r ≡ true → SeekTo (a ∷ b ∷ c ∷ []) (now (s .entry)) i (i + 32)) ⌝ }
+{
+    if i % 32 != 0 {
+        return false;
+    }
+    if s.len() - i < 34 {
+        return false;
+    }
+    let mut free = true;
+    let mut k = i;
+    let end = i + 32;
+    while k < end {
+        free = free & ((s[k] != a) | (s[k + 1] != b) | (s[k + 2] != c));
+        k += 1;
+    }
+    free
+}
+
+// The first place of s at or after i where a b c stand.
+pub fn find3(s: &[u8], i: usize, a: u8, b: u8, c: u8) -> Found
+    ensures { λ r. ⌜ r ≡ found i (index (a ∷ b ∷ c ∷ []) (drop i (now (s .entry)))) ⌝ }
+{
+    if s.len() < i {
+        return Found::Nowhere;
+    }
+    let mut j = i;
+    while 3 <= s.len() - j {
+        if is_free_block(s, j, a, b, c) {
+            j += 32;
+            continue;
+        }
+        if (s[j] == a) & (s[j + 1] == b) & (s[j + 2] == c) {
+            return Found::Here(j);
+        }
+        j += 1;
     }
     Found::Nowhere
 }

@@ -1,0 +1,88 @@
+-- `text::is_free_block` meets its contract. The loop's invariant: where none was found, there is none from i up to k.
+-- Assumes nothing.
+use Prim.Native.Nat.{_+_, _-_, _≤_}
+use native.Mathlib.Omega.{arith}
+use mathlib.Core.Bool.{true}
+use mathlib.Core.List.{[], _∷_}
+use mathlib.Core.Path.{_≡_}
+use Rattle.text.specs.Run.{SeekTo}
+use Rattle.text.proofs.Tests.{false-true, and-true}
+use Rattle.text.proofs.SeekLaws.{seek-start, seek-next, three-other}
+use Rattle.text.proofs.search.is_free_block.Statement.{statement}
+use Rattle.text.proofs.search.is_free_block.Tie as tie
+
+abbrev Inv-loop : tie.InvT-loop
+Inv-loop s i a b c free₀ k₀ end free k = (free ≡ true → SeekTo (a ∷ b ∷ c ∷ []) s i k) × ((i ≤ k) × (k ≤ i + 32))
+
+abbrev μ-loop : tie.MeasureT-loop
+μ-loop s i a b c free₀ k₀ end free k = i + 32 - k
+
+returns : tie.Need-returns Inv-loop μ-loop
+returns c = λ e. false-true e
+
+sub-if2 : tie.Need-sub-if2 Inv-loop μ-loop
+sub-if2 c = omega arith
+
+returns-2 : tie.Need-returns-2 Inv-loop μ-loop
+returns-2 c = λ e. false-true e
+
+add-end : tie.Need-add-end Inv-loop μ-loop
+add-end c = omega arith
+
+loop-holds : tie.Need-loop-holds Inv-loop μ-loop
+loop-holds c = (λ _. seek-start _ _ _ (omega arith), omega arith)
+
+shared-slice-read-free : tie.Need-shared-slice-read-free Inv-loop μ-loop
+shared-slice-read-free c = omega arith
+
+add-free : tie.Need-add-free Inv-loop μ-loop
+add-free c = omega arith
+
+shared-slice-read-free-2 : tie.Need-shared-slice-read-free-2 Inv-loop μ-loop
+shared-slice-read-free-2 c = omega arith
+
+add-free-2 : tie.Need-add-free-2 Inv-loop μ-loop
+add-free-2 c = omega arith
+
+shared-slice-read-free-3 : tie.Need-shared-slice-read-free-3 Inv-loop μ-loop
+shared-slice-read-free-3 c = omega arith
+
+add-k : tie.Need-add-k Inv-loop μ-loop
+add-k c = omega arith
+
+loop-less : tie.Need-loop-less Inv-loop μ-loop
+loop-less c = omega arith
+
+loop-again : tie.Need-loop-again Inv-loop μ-loop
+loop-again c =
+    let a = c .before .before .before .before .before .before .before .args in
+    let k = c .before .before .before .before .loop .k in (
+      λ e.
+          let q = and-true (c .before .before .before .before .loop .free) _ e in
+          seek-next _ (a .s .now) (a .i) k (c .before .before .before .before .loop .inv .0 (q .0)) (omega arith) (three-other (a .s .now) (a .a) (a .b) (a .c) k (omega arith) (q .1)),
+      omega arith,
+    )
+
+returns-3 : tie.Need-returns-3 Inv-loop μ-loop
+returns-3 c = let q : c .before .loop .k ≡ c .before .before .before .before .args .i + 32 = omega arith in rw q at (c .before .loop .inv .0)
+
+pub is-free-block-spec : {M : Type 1} → statement M
+is-free-block-spec =
+    tie.close
+    (tie.spec
+    Inv-loop
+    μ-loop
+    returns
+    sub-if2
+    returns-2
+    add-end
+    loop-holds
+    shared-slice-read-free
+    add-free
+    shared-slice-read-free-2
+    add-free-2
+    shared-slice-read-free-3
+    add-k
+    loop-less
+    loop-again
+    returns-3)
