@@ -8,8 +8,8 @@ use Rattle.html.specs.declared.Answer as H
 use Rattle.html.specs.Answers.{answer-number, answer-length}
 use Rattle.markdown.specs.declared.Answer as MA
 use Rattle.markdown.specs.Answers as M
-use Rattle.records.specs.Answers.{Answer, at-end, refused, gives, BlockValues, Emphasis}
-use Rattle.records.specs.declared.walker.Range.{Range}
+use Rattle.walker.specs.Answers.{Answer, at-end, refused, gives, BlockValues, Emphasis}
+use Rattle.walker.specs.declared.Range.{Range}
 use Rattle.sheet.specs.Calls as S
 use Rattle.sheet.specs.Calls.{no-utf8, no-sheet, yes-sheet}
 use Rattle.capi.specs.declared.Written.{Written}

@@ -1,20 +1,20 @@
 // The calls for C: numbers, and slices as a pointer and a length. include/release_notes.h says the same for a C programmer.
 ghost use mathlib.Core.Path.{_≡_};
 ghost use Prim.Native.Nat.{_≤_};
-ghost use Rattle.records.specs.Answers.{block-answer, span-answer};
-ghost use Rattle.records.specs.Places.{marker-place, text-place, first-answer, here-answer};
+ghost use Rattle.walker.specs.Answers.{block-answer, span-answer};
+ghost use Rattle.walker.specs.Places.{marker-place, text-place, first-answer, here-answer};
 ghost use lib.ListN.{length};
 ghost use Rattle.html.specs.Calls.{html-to-markdown-call};
 ghost use Rattle.text.specs.Outcome.{result-after, work-kept};
 ghost use Rattle.markdown.specs.Calls.{blocks-call};
 ghost use Rattle.sheet.specs.Calls.{sheet-call};
 ghost use Rattle.capi.specs.Values.{bit, written-of, page-struct, markdown-struct, written-struct, block-of, block-struct, span-struct, first-struct, here-struct, part-struct, sheet-struct};
-use records::walker::BlockAnswer;
-use records::walker::FirstAnswer;
-use records::walker::HereAnswer;
-use records::walker::Range;
-use records::walker::SpanAnswer;
 use sheet::Verdict;
+use walker::BlockAnswer;
+use walker::FirstAnswer;
+use walker::HereAnswer;
+use walker::Range;
+use walker::SpanAnswer;
 
 // What a call that writes answers: document 01's number, 0 for success, and how many bytes of the result it wrote.
 #[repr(C)]
@@ -146,7 +146,7 @@ fn block(number: u32, kind: u32, level: usize, depth: usize, count: usize, next:
 pub extern "C" fn rn_block_at(records: &[u8], at: usize) -> BlockAt
     ensures { λ r. ⌜ r ≡ block-struct (block-answer (now (records .entry)) at) ⌝ }
 {
-    match records::walker::block_at(records, at) {
+    match walker::block_at(records, at) {
         BlockAnswer::Heading { level, count, next } => block(0, 1, level, 0, count, next),
         BlockAnswer::Paragraph { count, next } => block(0, 2, 0, 0, count, next),
         BlockAnswer::Item { depth, count, next } => block(0, 3, 0, depth, count, next),
@@ -165,7 +165,7 @@ fn flag(b: bool) -> u32
 pub extern "C" fn rn_span_at(records: &[u8], at: usize, n: usize) -> SpanAt
     ensures { λ r. ⌜ r ≡ span-struct (span-answer (now (records .entry)) at n) ⌝ }
 {
-    match records::walker::span_at(records, at, n) {
+    match walker::span_at(records, at, n) {
         SpanAnswer::Span { bold, italic, code } => SpanAt {
             number: 0,
             kind: 1,
@@ -204,7 +204,7 @@ fn by_length(range: Range) -> Part
 pub extern "C" fn rn_marker_at(records: &[u8], at: usize) -> Part
     ensures { λ r. ⌜ r ≡ part-struct (marker-place (now (records .entry)) at) ⌝ }
 {
-    let range = records::walker::marker_range(records, at);
+    let range = walker::marker_range(records, at);
     by_length(range)
 }
 
@@ -212,7 +212,7 @@ pub extern "C" fn rn_marker_at(records: &[u8], at: usize) -> Part
 pub extern "C" fn rn_text_at(records: &[u8], at: usize, n: usize) -> Part
     ensures { λ r. ⌜ r ≡ part-struct (text-place (now (records .entry)) at n) ⌝ }
 {
-    let range = records::walker::text_range(records, at, n);
+    let range = walker::text_range(records, at, n);
     by_length(range)
 }
 
@@ -220,7 +220,7 @@ pub extern "C" fn rn_text_at(records: &[u8], at: usize, n: usize) -> Part
 pub extern "C" fn rn_first_at(records: &[u8], at: usize) -> FirstAt
     ensures { λ r. ⌜ r ≡ first-struct (first-answer (now (records .entry)) at) ⌝ }
 {
-    match records::walker::first_at(records, at) {
+    match walker::first_at(records, at) {
         FirstAnswer::At(first) => FirstAt {
             number: 0,
             at: first,
@@ -234,7 +234,7 @@ pub extern "C" fn rn_first_at(records: &[u8], at: usize) -> FirstAt
 pub extern "C" fn rn_here_at(records: &[u8], at: usize) -> HereAt
     ensures { λ r. ⌜ r ≡ here-struct (here-answer (now (records .entry)) at) ⌝ }
 {
-    match records::walker::here_at(records, at) {
+    match walker::here_at(records, at) {
         HereAnswer::Span {
             bold,
             italic,

@@ -1,6 +1,2 @@
-// Block records: document 01, "Records". `reader` reads one block of lent bytes, `walker` answers what stands at an offset, and
-// `writer` stores bytes into a lent buffer. The definitions stand in specs/.
-mod fields;
-mod reader;
-pub mod walker;
+// Block records: document 01, "Records". `writer` stores their bytes into a lent buffer. The definitions stand in specs/; crate `walker` reads.
 pub mod writer;

@@ -1,7 +1,7 @@
 -- `capi::rn_first_at` meets its contract: each case of the answer is given the values that the definition gives it.
 -- Assumes nothing.
 use mathlib.Core.Path.{sym, ap, _∙_}
-use Rattle.records.specs.Numbers.{first-values}
+use Rattle.walker.specs.Numbers.{first-values}
 use Rattle.capi.specs.Values.{first-struct}
 use borrow.Author.Needs.{needs}
 use Rattle.capi.proofs.rn_first_at.Statement.{statement}

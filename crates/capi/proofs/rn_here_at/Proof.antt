@@ -1,8 +1,8 @@
 -- `capi::rn_here_at` meets its contract: each case of the answer is given the values that the definition gives it.
 -- Assumes nothing.
 use mathlib.Core.Path.{sym, ap, _∙_}
-use Rattle.records.specs.Numbers.{here-values}
-use Rattle.records.proofs.PlaceLaws.{here-ordered}
+use Rattle.walker.specs.Numbers.{here-values}
+use Rattle.walker.proofs.PlaceLaws.{here-ordered}
 use Rattle.capi.specs.Values.{here-struct}
 use borrow.Author.Needs.{needs}
 use Rattle.capi.proofs.rn_here_at.Statement.{statement}

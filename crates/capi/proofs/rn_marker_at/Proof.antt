@@ -2,7 +2,7 @@
 -- Assumes nothing.
 use mathlib.Core.Path.{ap, _∙_}
 use borrow.Author.Needs.{needs}
-use Rattle.records.proofs.PlaceLaws.{marker-holds}
+use Rattle.walker.proofs.PlaceLaws.{marker-holds}
 use Rattle.capi.specs.Values.{part-struct}
 use Rattle.capi.proofs.rn_marker_at.Statement.{statement}
 use Rattle.capi.proofs.rn_marker_at.Tie as tie

@@ -1,7 +1,7 @@
 -- `capi::rn_span_at` meets its contract: each case of the answer is given the values that the definition gives it.
 -- Assumes nothing.
 use mathlib.Core.Path.{sym, ap, _∙_}
-use Rattle.records.specs.Numbers.{span-values}
+use Rattle.walker.specs.Numbers.{span-values}
 use Rattle.capi.specs.Values.{span-struct}
 use borrow.Author.Needs.{needs}
 use Rattle.capi.proofs.rn_span_at.Statement.{statement}

@@ -2,7 +2,7 @@
 -- Assumes nothing.
 use mathlib.Core.Path.{ap, _∙_}
 use borrow.Author.Needs.{needs}
-use Rattle.records.proofs.PlaceLaws.{text-holds}
+use Rattle.walker.proofs.PlaceLaws.{text-holds}
 use Rattle.capi.specs.Values.{part-struct}
 use Rattle.capi.proofs.rn_text_at.Statement.{statement}
 use Rattle.capi.proofs.rn_text_at.Tie as tie

@@ -1,0 +1,12 @@
+pub mod Front
+pub mod MarkerBytes
+pub mod Placed
+pub mod Spans
+pub mod Heads
+pub mod Blocks
+pub mod WalkerLaws
+pub mod PlaceLaws
+pub mod NumberLaws
+pub mod Walked
+pub mod Held
+pub mod Examples

@@ -1,0 +1,7 @@
+-- What the walker answers.
+pub mod Answers
+pub mod Places
+pub mod Numbers
+pub mod Walk
+-- What the contracts of the inner functions say.
+pub mod Readers

@@ -1,0 +1,31 @@
+-- A walk over the records by the walker's answers alone: block after block, each at the offset that the one before it gave, and then the end.
+-- Assumes nothing.
+use Prim.Native.Nat.{ℕ}
+use mathlib.Core.Path.{_≡_}
+use mathlib.Core.List.{List, [], _∷_}
+use Rattle.records.specs.Blocks.{Block}
+use Rattle.walker.specs.Answers.{Answer, at-end, refused, gives, BlockValues, Emphasis, map, values-of, emphasis-of, marker-of, text-or-none, nth, block-answer, marker-answer, span-answer, text-answer}
+
+-- at this offset the walker shows the block b: its numbers and the next offset, its marker, and each span's emphasis and text
+pub record Shows (s : List ℕ) (at : ℕ) (b : Block) (next : ℕ) : Type 0 where
+  pub values : block-answer s at ≡ gives (values-of b next)
+  pub marker : marker-answer s at ≡ marker-of (b .kind)
+  pub emphasis : (n : ℕ) → span-answer s at n ≡ map emphasis-of (nth (b .spans) n)
+  pub text : (n : ℕ) → text-answer s at n ≡ text-or-none (λ x. x .text) (nth (b .spans) n)
+
+-- at this offset no block is shown: the same is answered for each span number, and there is no text
+pub record Blank (s : List ℕ) (at : ℕ) (x : Answer BlockValues) (y : Answer Emphasis) : Type 0 where
+  pub values : block-answer s at ≡ x
+  pub marker : marker-answer s at ≡ []
+  pub emphasis : (n : ℕ) → span-answer s at n ≡ y
+  pub text : (n : ℕ) → text-answer s at n ≡ []
+
+abbrev pub Ends : List ℕ → ℕ → Type 0
+Ends s at = Blank s at at-end at-end
+
+abbrev pub Refuses : List ℕ → ℕ → Type 0
+Refuses s at = Blank s at (refused 7) (refused 7)
+
+abbrev pub Walk : List ℕ → ℕ → List Block → Type 0
+Walk s at [] = Ends s at
+Walk s at (b ∷ bs) = (next : ℕ) × Shows s at b next × Walk s next bs
