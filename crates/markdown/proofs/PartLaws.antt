@@ -65,5 +65,6 @@ trimmed-is s from to k m v e f =
       low = omega arith;
       order = omega arith;
       high = omega arith;
+      start = ap (λ (x : ℕ). from + x) e;
       text = ap chars t ∙ chars-end (between s (from + k) to) ∙ ap trim-end c;
     }

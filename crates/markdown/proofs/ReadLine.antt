@@ -9,7 +9,7 @@ use lib.Dec.{eqb}
 use lib.ListN.{length, getD}
 use Rattle.text.specs.Chars.{is-space}
 use Rattle.text.specs.Utf8.{Scalars, chars}
-use Rattle.text.specs.Trim.{trim}
+use Rattle.text.specs.Trim.{trim, start-of}
 use Rattle.records.specs.Blocks.{Item}
 use Rattle.spans.specs.Spans.{spans}
 use Rattle.markdown.specs.Blocks.{Reader, list-marker, heading, added, read-text, read-line}
@@ -67,6 +67,9 @@ module _ (md work : List ℕ) (s : State) (l : Line) (g : LineGiven md work s l)
     words-scalars =
         subst (λ (x : List ℕ). Scalars (chars x)) words-text
         (subst Scalars (sym words) (scalars-trim is-space (chars text) (subst (λ (x : List ℕ). Scalars (chars x)) (sym t) (g .scalars))))
+
+    pub words-start : (w .from ≡ w .to → ⊥) → (w .from ≡ start-of text) × (w .from < length text)
+    words-start n = (omega (arith, v .start, ap start-of (part-all text)), omega (arith, v .order, v .high))
 
     -- a step that does what the line's shape says
     module _ (work₁ out out₁ : List ℕ) (r : State) where

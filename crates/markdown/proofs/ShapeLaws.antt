@@ -4,17 +4,18 @@ use Prim.Native.Nat.{ℕ, suc, _+_, _-_, _/_, _≤_, _<_, min}
 use mathlib.Core.Bool.{true, false, _&&_, _||_, and-true as and-true-right, Bool}
 use mathlib.Core.Option.{none, some}
 use mathlib.Core.List.{List, [], _∷_, _++_}
+use mathlib.Core.Logic.{⊎-elim}
 use mathlib.Core.Path.{_≡_, refl, sym, ap, _∙_}
-use borrow.Author.Tests.{eq-eqb, ne-eqb, le-leb, lt-leb}
+use borrow.Author.Tests.{eq-eqb, ne-eqb, le-leb, lt-leb, ltb-true, ltb-false}
 use native.Mathlib.Omega.{arith}
-use lib.Dec.{eqb, leb}
-use lib.ListN.{length, getD, take, drop, length-append, length-drop}
+use lib.Dec.{eqb, leb, ltb}
+use lib.ListN.{length, getD, take, drop, length-append, length-drop, drop-of-length-le, List·getD-eq-default}
 use lib.Seq.{drop-drop}
 use Rattle.text.specs.Words.{if_then_else_, case, str, starts, starts-with, is-empty, take-while, drop-while}
 use Rattle.text.specs.Chars.{within, is-digit, is-space, Ascii}
 use Rattle.text.specs.Utf8.{encode, size, chars}
 use Rattle.text.specs.Trim.{trim, start-of}
-use Rattle.text.proofs.Tests.{or-elim, and-false, within-is, within-below, within-above, starts-room}
+use Rattle.text.proofs.Tests.{decide, or-elim, and-false, within-is, within-below, within-above, starts-room}
 use Rattle.text.proofs.Laws.{chars-nil, encode-chars, encode-append, size-encode}
 use Rattle.text.proofs.AsciiLaws.{starts-chars, digit-high, drop-chars}
 use Rattle.text.proofs.TrimLaws.{drop-start, chars-start, start-le}
@@ -70,6 +71,31 @@ module _ (t : List ℕ) (level : ℕ) (e : level ≡ length (take-while (λ (x :
         }
 
 -- ---- list markers
+-- a byte and a space stand at an offset
+space-at : (line : List ℕ) (j : ℕ) → starts-with (32 ∷ []) (drop j line) ≡ eqb (getD line j 0) 32
+space-at line j =
+    ⊎-elim
+    (λ l. rw (drop-next line j (ltb-true j (length line) l)) (and-true-right (eqb (getD line j 0) 32)))
+    (λ l. let h = ltb-false j (length line) l in rw (drop-of-length-le line h, List·getD-eq-default line 0 h))
+    (decide (ltb j (length line)))
+
+spread : (x y z w : Bool) → ((x || y) || z) && w ≡ ((x && w) || (y && w)) || (z && w)
+spread true y z true = refl
+spread true true true false = refl
+spread true true false false = refl
+spread true false true false = refl
+spread true false false false = refl
+spread false true z true = refl
+spread false true true false = refl
+spread false true false false = refl
+spread false false true w = refl
+spread false false false w = refl
+
+pub bullet-at : (line : List ℕ) (i : ℕ) → i < length line
+    → ((eqb (getD line i 0) 45 || eqb (getD line i 0) 42) || eqb (getD line i 0) 43) && eqb (getD line (i + 1) 0) 32
+    ≡ starts "- " (drop i line) || starts "* " (drop i line) || starts "+ " (drop i line)
+bullet-at line i l = rw (drop-next line i l, space-at line (i + 1)) (spread (eqb (getD line i 0) 45) (eqb (getD line i 0) 42) (eqb (getD line i 0) 43) (eqb (getD line (i + 1) 0) 32))
+
 module _ (line : List ℕ) (at : ℕ) (e : at ≡ start-of line) where
   marker-in : at ≤ length line
   marker-in = omega (arith, start-le line)
@@ -127,20 +153,20 @@ module _ (line : List ℕ) (at : ℕ) (e : at ≡ start-of line) where
   -- digits
   module _
       (b : starts "- " (drop at line) || starts "* " (drop at line) || starts "+ " (drop at line) ≡ false)
-      (n : ℕ)
-      (d₀ : n ≡ length (take-while is-digit (between line at (length line))))
+      (stop : ℕ)
+      (d : stop ≡ at + length (take-while is-digit (drop at line)))
     where
       abbrev rest : List ℕ
       rest = drop at line
 
-      d : n ≡ length (take-while is-digit rest)
-      d = d₀ ∙ rw (part-from line at)
+      abbrev digits : List ℕ
+      digits = take-while is-digit rest
 
-      pub digits-in : at + n ≤ length line
-      digits-in = let l = length-drop at line in omega (arith, d, run-le is-digit rest, marker-in)
+      pub digits-in : stop ≤ length line
+      digits-in = let l = length-drop at line in omega (arith, run-le is-digit rest, marker-in)
 
       ordinal-eq : marker-at at (chars rest)
-          ≡ (if starts ". " (drop (at + n) line) && within 1 9 n then some (marked (at / 2) (take-while is-digit rest ++ str ".") (drop 2 (chars (drop (at + n) line)))) else none)
+          ≡ (if starts ". " (drop stop line) && within 1 9 (length digits) then some (marked (at / 2) (digits ++ str ".") (drop 2 (chars (drop stop line)))) else none)
       unfolding marker-at
       ordinal-eq =
           let rc = run-chars is-digit digit-high rest in
@@ -151,35 +177,34 @@ module _ (line : List ℕ) (at : ℕ) (e : at ≡ start-of line) where
             b,
             rc .0,
             rc .1,
+            drop-drop (length digits) at line,
             ← d,
-            drop-drop n at line,
-            starts-chars (46 ∷ 32 ∷ []) (drop (at + n) line) (ascii-two 46 32 (omega arith) (omega arith)),
+            starts-chars (46 ∷ 32 ∷ []) (drop stop line) (ascii-two 46 32 (omega arith) (omega arith)),
           )
 
-      pub ordinal-none : n ≡ 0 → list-marker (chars line) ≡ none
-      ordinal-none z = marker-eq ∙ ordinal-eq ∙ rw (within-below 1 9 n (omega arith), and-false (starts ". " (drop (at + n) line)) false refl)
+      pub ordinal-none : stop ≡ at → list-marker (chars line) ≡ none
+      ordinal-none z = marker-eq ∙ ordinal-eq ∙ rw (within-below 1 9 (length digits) (omega arith), and-false (starts ". " (drop stop line)) false refl)
 
-      pub ordinal-many : 9 < n → list-marker (chars line) ≡ none
-      ordinal-many z = marker-eq ∙ ordinal-eq ∙ rw (within-above 1 9 n (omega arith) z, and-false (starts ". " (drop (at + n) line)) false refl)
+      pub ordinal-many : 9 < stop - at → list-marker (chars line) ≡ none
+      ordinal-many z = marker-eq ∙ ordinal-eq ∙ rw (within-above 1 9 (length digits) (omega arith) (omega arith), and-false (starts ". " (drop stop line)) false refl)
 
-      pub ordinal-other : starts ". " (drop (at + n) line) ≡ false → list-marker (chars line) ≡ none
+      pub ordinal-other : starts ". " (drop stop line) ≡ false → list-marker (chars line) ≡ none
       ordinal-other f = marker-eq ∙ ordinal-eq ∙ rw f
 
-      module _ (f : starts ". " (drop (at + n) line) ≡ true) where
-        pub ordinal-inside : Inside line (at + n + 2) (length line)
-        ordinal-inside = record { order = starts-room (46 ∷ 32 ∷ []) line (at + n) (omega arith) f; bound = omega arith }
+      module _ (f : starts ". " (drop stop line) ≡ true) where
+        pub ordinal-inside : Inside line (stop + 2) (length line)
+        ordinal-inside = record { order = starts-room (46 ∷ 32 ∷ []) line stop (omega arith) f; bound = omega arith }
 
         mark-some : (ds : List ℕ) → 1 ≤ length ds → mark ds ≡ ds ++ str "."
         mark-some [] h = absurd (omega arith)
         mark-some (c ∷ ds) h = refl
 
-        digits-part : between line at (at + n) ≡ take-while is-digit rest
-        digits-part = let q : at + n - at ≡ n = omega arith in rw q (ap (λ (k : ℕ). take k rest) d ∙ run-take is-digit rest)
+        digits-part : between line at stop ≡ digits
+        digits-part = let q : stop - at ≡ length digits = omega arith in rw q (run-take is-digit rest)
 
-        pub ordinal-is : (g : Range) → (n ≡ 0 → ⊥) → n ≤ 9 → Trimmed line (at + n + 2) (length line) g
-            → MarkerAt line (at / 2) at (at + n) (g .from) (g .to)
+        pub ordinal-is : (g : Range) → (stop ≡ at → ⊥) → stop - at ≤ 9 → Trimmed line (stop + 2) (length line) g
+            → MarkerAt line (at / 2) at stop (g .from) (g .to)
         ordinal-is g z m v =
-            let l = digits-in in
             record {
               digits = record { order = omega arith; bound = digits-in };
               few = omega arith;
@@ -190,13 +215,13 @@ module _ (line : List ℕ) (at : ℕ) (e : at ≡ start-of line) where
                   ∙ ordinal-eq
                   ∙ rw (
                     f,
-                    within-is 1 9 n (omega arith) m,
-                    sym (drop-chars (46 ∷ 32 ∷ []) (drop (at + n) line) (ascii-two 46 32 (omega arith) (omega arith)) f),
+                    within-is 1 9 (length digits) (omega arith) (omega arith),
+                    sym (drop-chars (46 ∷ 32 ∷ []) (drop stop line) (ascii-two 46 32 (omega arith) (omega arith)) f),
                     v .text,
-                    part-from line (at + n + 2),
-                    drop-drop 2 (at + n) line,
+                    part-from line (stop + 2),
+                    drop-drop 2 stop line,
                     digits-part,
-                    mark-some (take-while is-digit rest) (omega (arith, d)),
+                    mark-some digits (omega arith),
                   );
             }
 

@@ -8,7 +8,7 @@ use mathlib.Core.Path.{_≡_}
 use Rattle.text.specs.Words.{str, all}
 use Rattle.text.specs.Chars.{is-digit}
 use Rattle.text.specs.Utf8.{chars}
-use Rattle.text.specs.Trim.{trim}
+use Rattle.text.specs.Trim.{trim, start-of}
 use Rattle.records.specs.Blocks.{Heading}
 use Rattle.spans.specs.Spans.{spans}
 use Rattle.markdown.specs.Blocks.{Marked, list-marker, Reader, reader, flush, added, heading}
@@ -25,6 +25,7 @@ pub record Trimmed (s : List ℕ) (from to : ℕ) (r : Range) : Type 0 where
   pub low : from ≤ r .from
   pub order : r .from ≤ r .to
   pub high : r .to ≤ to
+  pub start : r .from ≡ from + start-of (between s from to)
   pub text : chars (between s (r .from) (r .to)) ≡ trim (chars (between s from to))
 
 -- a trimmed line that starts with `#`

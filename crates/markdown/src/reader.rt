@@ -269,7 +269,7 @@ pub(crate) fn read_line(md: &[u8], work: &mut [u8], out: &mut [u8], s: State, li
     if text[a] == b'#' {
         return hash_line(md, work, out, s, copied, from, to);
     }
-    match list_marker(text) {
+    match list_marker(text, a) {
         Marker::At(depth, at, stop, start, end) => {
             item_line(md, work, out, s, text, depth, at, stop, start, end)
         }

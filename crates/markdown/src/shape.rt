@@ -1,5 +1,5 @@
 // The shape of a line: a heading, an item or a rule.
-ghost use Prim.Native.Nat.{_+_, _-_, _*_, _≤_};
+ghost use Prim.Native.Nat.{_+_, _-_, _*_, _<_, _≤_};
 ghost use mathlib.Core.Path.{_≡_};
 ghost use mathlib.Core.Bool.{false, _||_};
 ghost use lib.ListN.{length, drop};
@@ -42,18 +42,19 @@ pub(crate) fn run_of(s: &[u8], b: u8) -> usize
     i
 }
 
-// How many digits s starts with.
-fn digits_of(s: &[u8]) -> usize
-    ensures { λ r. ⌜ r ≡ length (take-while is-digit (now (s .entry))) ⌝ }
+// Where the digits from i on end.
+fn digits_end(s: &[u8], i: usize) -> usize
+    requires { ⌜ i ≤ length (now s) ⌝ }
+    ensures { λ r. ⌜ r ≡ i + length (take-while is-digit (drop i (now (s .entry)))) ⌝ }
 {
-    let mut i = 0;
-    while i < s.len() {
-        if !text::is_digit(s[i]) {
-            return i;
+    let mut j = i;
+    while j < s.len() {
+        if !text::is_digit(s[j]) {
+            return j;
         }
-        i += 1;
+        j += 1;
     }
-    i
+    j
 }
 
 // `-`, `*` or `_`.
@@ -138,11 +139,11 @@ pub enum Marker {
 
 // Whether a bullet stands at i.
 fn is_bullet(line: &[u8], i: usize) -> bool
+    requires { ⌜ i < length (now line) ⌝ }
     ensures { λ r. ⌜ r ≡ starts "- " (drop i (now (line .entry))) || starts "* " (drop i (now (line .entry))) || starts "+ " (drop i (now (line .entry))) ⌝ }
 {
-    text::starts_with(line, i, b"- ")
-        | text::starts_with(line, i, b"* ")
-        | text::starts_with(line, i, b"+ ")
+    let b = line[i];
+    ((b == b'-') | (b == b'*') | (b == b'+')) & (text::byte(line, i + 1) == 32)
 }
 
 // A marker of digits, where the line's text starts.
@@ -150,14 +151,13 @@ fn ordered_marker(line: &[u8], at: usize) -> Marker
     requires { ⌜ (at ≡ start-of (now line)) × (starts "- " (drop at (now line)) || starts "* " (drop at (now line)) || starts "+ " (drop at (now line)) ≡ false) ⌝ }
     ensures { λ r. ⌜ MarkerIs (now (line .entry)) r ⌝ }
 {
-    let n = digits_of(&line[at..]);
-    if n == 0 {
+    let stop = digits_end(line, at);
+    if stop == at {
         return Marker::Unmarked;
     }
-    if 9 < n {
+    if 9 < stop - at {
         return Marker::Unmarked;
     }
-    let stop = at + n;
     if !text::starts_with(line, stop, b". ") {
         return Marker::Unmarked;
     }
@@ -165,10 +165,11 @@ fn ordered_marker(line: &[u8], at: usize) -> Marker
     Marker::At(at / 2, at, stop, t.from, t.to)
 }
 
-pub(crate) fn list_marker(line: &[u8]) -> Marker
+// The marker of a line whose text starts at `at`.
+pub(crate) fn list_marker(line: &[u8], at: usize) -> Marker
+    requires { ⌜ (at ≡ start-of (now line)) × (at < length (now line)) ⌝ }
     ensures { λ r. ⌜ MarkerIs (now (line .entry)) r ⌝ }
 {
-    let at = text::start_of(line);
     if is_bullet(line, at) {
         let t = trimmed(line, at + 2, line.len());
         return Marker::At(at / 2, at, at, t.from, t.to);

@@ -1,6 +1,6 @@
 -- `markdown::reader::read_line` meets its contract.
 -- Assumes nothing.
-use Rattle.markdown.proofs.ReadLine.{whole-inside, line-small, words-in, words-given, words-fit, words-scalars, step-blank, step-hash, step-item, step-text}
+use Rattle.markdown.proofs.ReadLine.{whole-inside, line-small, words-in, words-given, words-fit, words-scalars, words-start, step-blank, step-hash, step-item, step-text}
 use native.Mathlib.Omega.{arith}
 use borrow.Author.Needs.{needs}
 use Rattle.markdown.proofs.reader.read_line.Statement.{statement}
@@ -46,7 +46,7 @@ returns-2 : tie.Need-returns-2
 returns-2 c = step-hash _ _ _ _ (c .before .before .before .before .before .before .before .before .before .before .before .before .before .before .before .before .before .before .before .before .pre) _ (c .before .before .before .before .before .before .before .before .before .before .before .before .before .before .before .text-of .ensures) _ (c .before .before .before .before .before .before .before .before .before .before .before .before .before .before .trimmed .ensures) _ _ _ _ (c .before .before .before .before .before .before .before .before .before .before .before .before .if1 .left) (c .before .before .before .before .before .before .before .if2 .taken) (c .before .before .before .before .hash-line .ensures)
 
 list-marker-requires : tie.Need-list-marker-requires
-list-marker-requires c κs = search needs
+list-marker-requires c κs = words-start _ _ _ _ (c .before .before .before .before .before .before .before .before .before .before .before .before .before .pre) _ (c .before .before .before .before .before .before .before .before .text-of .ensures) _ (c .before .before .before .before .before .before .before .trimmed .ensures) (c .before .before .before .before .before .if1 .left)
 
 enum-known-depth : tie.Need-enum-known-depth
 enum-known-depth c = search needs
