@@ -5,7 +5,7 @@ use mathlib.Core.Bool.{Bool, true, false, cond}
 use mathlib.Core.Option.{none, some}
 use mathlib.Core.List.{List, [], _∷_, _++_}
 use mathlib.Core.Logic.{_⊎_, inl, inr, ⊎-elim}
-use mathlib.Core.Path.{_≡_, refl, sym, ap, _∙_}
+use mathlib.Core.Path.{_≡_, refl, sym, ap, _∙_, subst}
 use borrow.Author.Tests.{ltb-true, ltb-false, eqb-true, ne-eqb}
 use native.Mathlib.Omega.{arith}
 use lib.Dec.{ltb, eqb}
@@ -27,18 +27,34 @@ opening = str "<!--"
 abbrev pub closing : List ℕ
 closing = str "-->"
 
+-- where p first stands in s, and what stands from there on
+abbrev FirstAt : List ℕ → List ℕ → ℕ → Type 0
+FirstAt p s n = (from p s ≡ drop n s) × (starts-with p (drop n s) ≡ true)
+
 index-from : (d : ℕ) (p s : List ℕ)
-    → ((index (d ∷ p) s ≡ none) × (from (d ∷ p) s ≡ [])) ⊎ ((n : ℕ) × (index (d ∷ p) s ≡ some n) × (from (d ∷ p) s ≡ drop n s))
+    → ((index (d ∷ p) s ≡ none) × (from (d ∷ p) s ≡ [])) ⊎ ((n : ℕ) × (index (d ∷ p) s ≡ some n) × FirstAt (d ∷ p) s n)
 unfolding index
 index-from d p [] = inl (refl, refl)
-index-from d p (c ∷ s) = by (starts-with (d ∷ p) (c ∷ s)) (index-from d p s)
+index-from d p (c ∷ s) = by (starts-with (d ∷ p) (c ∷ s)) refl (index-from d p s)
   where
-    by : (t : Bool) → ((index (d ∷ p) s ≡ none) × (from (d ∷ p) s ≡ [])) ⊎ ((n : ℕ) × (index (d ∷ p) s ≡ some n) × (from (d ∷ p) s ≡ drop n s))
+    by : (t : Bool) → starts-with (d ∷ p) (c ∷ s) ≡ t
+        → ((index (d ∷ p) s ≡ none) × (from (d ∷ p) s ≡ [])) ⊎ ((n : ℕ) × (index (d ∷ p) s ≡ some n) × FirstAt (d ∷ p) s n)
         → (((if t then some 0 else index (d ∷ p) s >>= (λ n. some (suc n))) ≡ none) × (cond t (c ∷ s) (from (d ∷ p) s) ≡ []))
-        ⊎ ((n : ℕ) × ((if t then some 0 else index (d ∷ p) s >>= (λ n. some (suc n))) ≡ some n) × (cond t (c ∷ s) (from (d ∷ p) s) ≡ drop n (c ∷ s)))
-    by true ih = inr (0, refl, refl)
-    by false (inl (e, f)) = inl (rw e, f)
-    by false (inr (n, e, f)) = inr (suc n, rw e, f)
+        ⊎ ((n : ℕ) × ((if t then some 0 else index (d ∷ p) s >>= (λ n. some (suc n))) ≡ some n)
+        × ((cond t (c ∷ s) (from (d ∷ p) s) ≡ drop n (c ∷ s)) × (starts-with (d ∷ p) (drop n (c ∷ s)) ≡ true)))
+    by true q ih = inr (0, refl, (refl, q))
+    by false q (inl (e, f)) = inl (rw e, f)
+    by false q (inr (n, e, f)) = inr (suc n, rw e, f)
+
+pub from-none : (d : ℕ) (p s : List ℕ) → index (d ∷ p) s ≡ none → from (d ∷ p) s ≡ []
+from-none d p s e = ⊎-elim (λ (_, f). f) (λ (n, g, _). let z : _≡_ {A = ℕ} 0 1 = cc in absurd (omega arith)) (index-from d p s)
+
+pub from-some : (d : ℕ) (p s : List ℕ) (n : ℕ) → index (d ∷ p) s ≡ some n → FirstAt (d ∷ p) s n
+from-some d p s n e =
+    ⊎-elim
+    (λ (g, _). let z : _≡_ {A = ℕ} 0 1 = cc in absurd (omega arith))
+    (λ (m, g, f). let q : m ≡ n = cc in subst (FirstAt (d ∷ p) s) q f)
+    (index-from d p s)
 
 cleaned-drop : (n : ℕ) (s : List ℕ) → cleaned n s ≡ cleaned 0 (drop n s)
 unfolding cleaned
@@ -55,7 +71,7 @@ comment-turn c s = by (starts "<!--" (c ∷ s))
     rest =
         ⊎-elim
         (λ (e, f). rw (e, f) (drop-of-length-le s {i = suc (length s)} (omega arith)))
-        (λ (n, e, f).
+        (λ (n, e, (f, _)).
         let q : n + 3 ≡ suc (n + 2) = omega arith in
         rw (e, f, drop-drop 3 n (c ∷ s), q))
         (index-from 45 (45 ∷ 62 ∷ []) (c ∷ s))

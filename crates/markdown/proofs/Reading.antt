@@ -12,46 +12,38 @@ use native.Mathlib.Nat.{add-zero}
 use native.Mathlib.Omega.{arith}
 use lib.ListN.{length, getD, take, drop, set, length-drop, length-set, drop-of-length-le}
 use lib.Seq.{sets, length-sets, drop-drop, drop-append-add, drop-set-lt, getD-drop, take-at, take-suc, take-suc-set, length-take-le}
-use Rattle.text.specs.Words.{starts, take-while}
+use Rattle.text.specs.Words.{starts, take-while, index}
 use Rattle.text.specs.Run.{RunTo}
+use Rattle.text.specs.Find.{found}
+use Rattle.text.specs.declared.Found.the-variants.{Here, Nowhere}
+use Rattle.text.proofs.FindLaws.{found-some, found-none}
 use Rattle.text.proofs.RunLaws.{run-le, run-next, run-stop}
 use Rattle.text.proofs.Lists.{drop-next}
 use Rattle.text.proofs.Tests.{starts-room, decide, and-true}
 use Rattle.records.proofs.Stores.{sets-front}
 use Rattle.markdown.specs.Blocks.{cleaned}
 use Rattle.text.specs.Part.{between}
-use Rattle.markdown.specs.Parts.{from, past, first-line, other-lines, text-of, quiet, PastIs, CommentedIs, LineIs}
+use Rattle.markdown.specs.Parts.{past, first-line, other-lines, text-of, quiet, PastIs, CommentedIs, LineIs}
 use Rattle.markdown.specs.declared.lines.Line.{Line}
-use Rattle.markdown.proofs.CommentLaws.{closing, comment-goes, other-stays}
+use Rattle.markdown.proofs.CommentLaws.{closing, from-none, from-some, comment-goes, other-stays}
 
 -- ---- the end of a comment
-from-here : (t : List ℕ) → starts "-->" t ≡ true → from closing t ≡ t
-from-here [] e = refl
-from-here (c ∷ t) e = rw e
-
-from-next : (c : ℕ) (t : List ℕ) → starts "-->" (c ∷ t) ≡ false → from closing (c ∷ t) ≡ from closing t
-from-next c t e = rw e
-
-module _ (s : List ℕ) (i j : ℕ) (v : from closing (drop j s) ≡ from closing (drop i s)) (m : i ≤ j) where
-  pub past-here : i < length s → starts "-->" (drop j s) ≡ true → PastIs s i (j + 3)
-  past-here k e =
-      let n = starts-room closing s j (omega arith) e in
+module _ (s : List ℕ) (i : ℕ) (l : i < length s) where
+  pub past-found : (k : ℕ) → found i (index closing (drop i s)) ≡ Here k → PastIs s i (k + 3)
+  past-found k e =
+      let (n, f, q) = found-some i (index closing (drop i s)) k e in
+      let g = from-some 45 (45 ∷ 62 ∷ []) (drop i s) n f in
+      let d : drop n (drop i s) ≡ drop k s = drop-drop n i s ∙ rw q in
       record {
-        left = sym (drop-drop 3 j s) ∙ ap (drop 3) (sym (from-here (drop j s) e) ∙ v);
+        left = sym (drop-drop 3 k s) ∙ ap (drop 3) (sym (g .0 ∙ d));
         low = omega arith;
-        bound = omega arith;
+        bound = starts-room closing s k (omega arith) (rw d at (g .1));
       }
 
-  pub past-next : j < length s → starts "-->" (drop j s) ≡ false → from closing (drop (j + 1) s) ≡ from closing (drop i s)
-  past-next l e = sym (rw (drop-next s j l) (from-next (getD s j 0) (drop (j + 1) s) (rw (drop-next s j l) at e))) ∙ v
-
-  pub past-end : i < length s → length s ≤ j → j ≤ length s → PastIs s i j
-  past-end k l h =
-      record {
-        left = drop-of-length-le s l ∙ sym (ap (drop 3) (sym v ∙ ap (from closing) (drop-of-length-le s l)));
-        low = omega arith;
-        bound = h;
-      }
+  pub past-none : found i (index closing (drop i s)) ≡ Nowhere → PastIs s i (length s)
+  past-none e =
+      let f = from-none 45 (45 ∷ 62 ∷ []) (drop i s) (found-none i (index closing (drop i s)) e) in
+      record { left = drop-of-length-le s {i = length s} (omega arith) ∙ rw f; low = l; bound = omega arith }
 
 -- ---- the line so far, and what is left of it: the first line of the text without comments from j on, and the other lines
 module _ (s : List ℕ) (j : ℕ) (l : j < length s) where

@@ -7,6 +7,7 @@ ghost use Rattle.text.specs.Words.{all, starts-with};
 ghost use Rattle.text.specs.Run.{RunTo};
 ghost use Rattle.text.specs.Part.{between};
 ghost use Rattle.markdown.specs.Parts.{source, text-of, quiet, Inside, PastIs, CommentedIs, LineIs};
+use text::Found;
 
 // A line: a part of the Markdown, or, where a comment was removed from it, of the work buffer; and where the next line starts.
 pub struct Line {
@@ -52,14 +53,10 @@ fn past_comment(markdown: &[u8], i: usize) -> usize
     requires { ⌜ i < length (now markdown) ⌝ }
     ensures { λ r. ⌜ PastIs (now (markdown .entry)) i r ⌝ }
 {
-    let mut j = i;
-    while j < markdown.len() {
-        if stands_at(markdown, j, b"-->") {
-            return j + 3;
-        }
-        j += 1;
-    }
-    j
+    let Found::Here(at) = text::find3(markdown, i, b'-', b'-', b'>') else {
+        return markdown.len();
+    };
+    at + 3
 }
 
 // The rest of a line from `start` on, after the `have` bytes of it that are in the work buffer: a comment stands in the line.
