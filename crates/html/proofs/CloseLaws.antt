@@ -2,23 +2,23 @@
 -- Assumes nothing.
 use Prim.Native.Nat.{ℕ, suc, _+_, _≤_, _<_}
 use native.Mathlib.Omega.{arith}
-use native.Mathlib.Numerals.{add-one}
 use mathlib.Core.Path.{_≡_, refl, sym, ap, _∙_}
 use mathlib.Core.Bool.{Bool, true, false, cond}
 use mathlib.Core.Logic.{⊎-elim}
 use mathlib.Core.Option.{Option, some, none}
 use mathlib.Core.List.{List, [], _∷_, _++_}
-use lib.Dec.{eqb, ltb}
-use lib.ListN.{length, getD, drop, drop-of-length-le}
-use lib.Seq.{drop-cons, drop-drop}
-use borrow.Author.Tests.{eq-eqb, ne-eqb, ltb-true, ltb-false}
+use lib.Dec.{ltb}
+use lib.ListN.{length, drop, length-drop}
+use lib.Seq.{drop-drop, drop-length}
+use borrow.Author.Tests.{ne-eqb, ltb-true, ltb-false}
 use Rattle.text.specs.Words.{if_then_else_, _>>=_, case, starts, index, find}
 use Rattle.text.specs.Utf8.{utf8, chars, stray}
 use Rattle.text.proofs.Tests.{decide, starts-room}
 use Rattle.text.proofs.Utf8.{utf8-1}
 use Rattle.text.proofs.Laws.{by-chars, chars-nil, chars-utf8, chars-bad, Tails, Long, utf8-long, lost-high}
 use Rattle.text.proofs.AsciiLaws.{chars-ascii, starts-chars, drop-chars}
-use Rattle.text.specs.Find.{since}
+use Rattle.text.specs.Find.{found}
+use Rattle.text.specs.declared.Found.the-variants.{Here, Nowhere}
 
 -- ---- an ASCII text that stands at the start is as long in bytes as in characters
 abbrev arrow : List ℕ
@@ -30,7 +30,7 @@ closed [] = []
 closed (x ∷ s) = let later = closed s in if starts "-->" (x ∷ s) then drop 3 (x ∷ s) else later
 
 -- ---- `closed`, step by step
-pub closed-cons : (x : ℕ) (s : List ℕ) → closed (x ∷ s) ≡ cond (starts "-->" (x ∷ s)) (drop 3 (x ∷ s)) (closed s)
+closed-cons : (x : ℕ) (s : List ℕ) → closed (x ∷ s) ≡ cond (starts "-->" (x ∷ s)) (drop 3 (x ∷ s)) (closed s)
 unfolding closed
 closed-cons x s = refl
 
@@ -105,36 +105,36 @@ comment-left (x ∷ s) = go (starts "-->" (x ∷ s)) (find "-->" s) (comment-lef
         let q : suc n + 3 ≡ suc (n + 3) = omega arith in
         rw q e
 
--- ---- the loop that looks for it, from one dash to the next
-pub closed-since : (s : List ℕ) → closed (since 45 s) ≡ closed s
-closed-since [] = refl
-closed-since (x ∷ s) =
-    ⊎-elim
-    (λ t. rw t)
-    (λ t. rw t (closed-since s ∙ sym (closed-not x s (λ e. let z = sym t ∙ eq-eqb x 45 e in let y : _≡_ {A = ℕ} 0 1 = cc in absurd (omega arith)))))
-    (decide (eqb x 45))
+-- ---- the answer of the code's search for it
+arrow-room : (s : List ℕ) (n : ℕ) → find "-->" s ≡ some n → n + 3 ≤ length s
+unfolding index
+arrow-room [] n e = let y : _≡_ {A = ℕ} 0 1 = cc in absurd (omega arith)
+arrow-room (x ∷ s) n e = go (starts "-->" (x ∷ s)) refl (find "-->" s) (arrow-room s) e
+  where
+    go : (t : Bool) → starts "-->" (x ∷ s) ≡ t → (o : Option ℕ) → ((m : ℕ) → o ≡ some m → m + 3 ≤ length s)
+        → (if t then some 0 else (o >>= (λ m. some (suc m)))) ≡ some n → n + 3 ≤ length (x ∷ s)
+    go true h o f e = let q : 0 ≡ n = cc in omega (arith, starts-room arrow (x ∷ s) 0 (omega arith) h)
+    go false h none f e = let y : _≡_ {A = ℕ} 0 1 = cc in absurd (omega arith)
+    go false h (some m) f e = let q : suc m ≡ n = cc in omega (arith, f m refl)
 
-pub closed-none : (s : List ℕ) → since 45 s ≡ [] → closed s ≡ []
-closed-none s e = sym (closed-since s) ∙ ap closed e ∙ closed-nil
+-- what `comment_end` promises
+abbrev pub Ended : List ℕ → ℕ → Option ℕ → ℕ → Type 0
+Ended s i o r = (drop r s ≡ case o [] (λ end. drop (end + 3) (drop i s))) × ((i ≤ r) × (r ≤ length s))
 
-pub closed-from : (s : List ℕ) (i j : ℕ) → drop j s ≡ since 45 (drop i s) → closed (drop j s) ≡ closed (drop i s)
-closed-from s i j e = ap closed e ∙ closed-since (drop i s)
+module _ (s : List ℕ) (i : ℕ) (l : i ≤ length s) where
+  pub ended-nowhere : found i (find "-->" (drop i s)) ≡ Nowhere → Ended s i (find "-->" (drop i s)) (length s)
+  ended-nowhere = go (find "-->" (drop i s))
+    where
+      go : (o : Option ℕ) → found i o ≡ Nowhere → Ended s i o (length s)
+      go none e = (drop-length s, (l, omega arith))
+      go (some n) e = let y : _≡_ {A = ℕ} 0 1 = cc in absurd (omega arith)
 
-pub closed-here : (s : List ℕ) (j : ℕ) → j < length s → starts "-->" (drop j s) ≡ true → closed (drop j s) ≡ drop (j + 3) s
-closed-here s j l h =
-    let d = drop-cons s j 0 l in
-    ap closed d ∙ closed-cons _ _ ∙ rw (sym (ap (starts "-->") d) ∙ h) (sym (ap (drop 3) d) ∙ drop-drop 3 j s)
-
-pub closed-next : (s : List ℕ) (j : ℕ) → j < length s → starts "-->" (drop j s) ≡ false → closed (drop j s) ≡ closed (drop (j + 1) s)
-closed-next s j l h =
-    let d = drop-cons s j 0 l in
-    ap closed d ∙ closed-cons _ _ ∙ rw (sym (ap (starts "-->") d) ∙ h, add-one j)
-
-pub closed-past : (s : List ℕ) (j : ℕ) → length s ≤ j → closed (drop j s) ≡ drop j s
-closed-past s j h = rw (drop-of-length-le s h) closed-nil
-
-pub closed-other : (s : List ℕ) (j : ℕ) → j < length s → (getD s j 0 ≡ 45 → ⊥) → closed (drop j s) ≡ closed (drop (j + 1) s)
-closed-other s j l h = ap closed (drop-cons s j 0 l) ∙ closed-not (getD s j 0) (drop (suc j) s) h ∙ ap (λ (k : ℕ). closed (drop k s)) (sym (add-one j))
-
-pub arrow-room : (s : List ℕ) (j : ℕ) → starts "-->" (drop j s) ≡ true → j + 3 ≤ length s
-arrow-room s j h = starts-room arrow s j (omega arith) h
+  pub ended-here : (j : ℕ) → found i (find "-->" (drop i s)) ≡ Here j → Ended s i (find "-->" (drop i s)) (j + 3)
+  ended-here j = go (find "-->" (drop i s)) (arrow-room (drop i s))
+    where
+      go : (o : Option ℕ) → ((n : ℕ) → o ≡ some n → n + 3 ≤ length (drop i s)) → found i o ≡ Here j → Ended s i o (j + 3)
+      go none f e = let y : _≡_ {A = ℕ} 0 1 = cc in absurd (omega arith)
+      go (some n) f e =
+          let q : i + n ≡ j = cc in
+          let k : i + (n + 3) ≡ j + 3 = omega arith in
+          (sym (drop-drop (n + 3) i s ∙ ap (λ (m : ℕ). drop m s) k), (omega arith, omega (arith, f n refl, length-drop i s)))

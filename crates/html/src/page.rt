@@ -146,21 +146,10 @@ fn comment_end(html: &[u8], i: usize) -> usize
     requires { ⌜ i ≤ length (now html) ⌝ }
     ensures { λ r. ⌜ (drop r (now (html .entry)) ≡ case (find "-->" (drop i (now (html .entry)))) [] (λ end. drop (end + 3) (drop i (now (html .entry))))) × ((i ≤ r) × (r ≤ length (now (html .entry)))) ⌝ }
 {
-    let mut j = i;
-    while j < html.len() {
-        if html[j] == b'-' {
-            if text::starts_with(html, j, b"-->") {
-                return j + 3;
-            }
-            j += 1;
-            continue;
-        }
-        let Found::Here(dash) = text::find(html, j + 1, b'-') else {
-            return html.len();
-        };
-        j = dash;
-    }
-    j
+    let Found::Here(end) = text::find3(html, i, b'-', b'-', b'>') else {
+        return html.len();
+    };
+    end + 3
 }
 
 // All turns, until the page or the room for notes is used up.
