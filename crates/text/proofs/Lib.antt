@@ -5,6 +5,7 @@ pub mod StartLaws
 pub mod Laws
 pub mod RunLaws
 pub mod TrimLaws
+pub mod WideLaws
 pub mod FindLaws
 pub mod PutLaws
 pub mod AsciiLaws

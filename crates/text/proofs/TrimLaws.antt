@@ -190,20 +190,6 @@ space-of (At c n) k e =
 space-of Bad k e = let z : _≡_ {A = ℕ} 0 1 = cc in absurd (omega arith)
 space-of End k e = let z : _≡_ {A = ℕ} 0 1 = cc in absurd (omega arith)
 
-zero-space : is-space 0 ≡ false
-unfolding is-space
-zero-space = refl
-
--- by the code there
-pub space-code : (s : List ℕ) (i k : ℕ) → space-at (drop i s) k ≡ (is-space (code-at s i) && eqb (length (utf8 (code-at s i))) k)
-unfolding space-at
-space-code s i k = by (char (drop i s)) refl
-  where
-    by : (x : Char) → char (drop i s) ≡ x → is-space-of x k ≡ (is-space (code-at s i) && eqb (length (utf8 (code-at s i))) k)
-    by (At c n) e = rw (code-char s i c n e, advance s i c n e .size)
-    by Bad e = rw (code-bad s i e, space-top (stray (getD s i 0)) (omega arith))
-    by End e = rw (code-end s i e, zero-space)
-
 module _ (s : List ℕ) (e : ℕ) where
   abbrev Q : ℕ → Bool
   Q k = space-at (drop (e - k) s) k

@@ -27,6 +27,12 @@ start-of bs = length bs - length (encode (trim-start (chars bs)))
 unfoldable pub end-of : List ℕ → ℕ
 end-of bs = length (encode (trim-end (chars bs)))
 
+-- how many bytes a space has that is not ASCII; 0 for anything else
+abbrev pub wide-space : Char → ℕ
+wide-space (At c n) = if ltb 1 n && is-space c then n else 0
+wide-space Bad = 0
+wide-space End = 0
+
 -- a space of k bytes
 abbrev pub is-space-of : Char → ℕ → Bool
 is-space-of (At c n) k = is-space c && eqb n k

@@ -23,7 +23,7 @@ pub(crate) fn wide(b: u8) -> u32
     b as u32
 }
 
-fn is_tail(b: u32) -> bool
+pub(crate) fn is_tail(b: u32) -> bool
     ensures { λ r. ⌜ r ≡ tail b ⌝ }
 {
     within(0x80, 0xBF, b)
@@ -46,7 +46,7 @@ fn is_start4(a: u32, b: u32) -> bool
 }
 
 // A size, or 0.
-fn when(t: bool, n: usize) -> usize
+pub(crate) fn when(t: bool, n: usize) -> usize
     ensures { λ r. ⌜ r ≡ (if t then n else 0) ⌝ }
 {
     if t { n } else { 0 }
@@ -69,7 +69,7 @@ fn size_of(a: u32, b: u32, c: u32, d: u32) -> usize
 }
 
 // Six bits more, those of the tail b.
-fn join(v: u32, b: u32) -> u32
+pub(crate) fn join(v: u32, b: u32) -> u32
     requires { ⌜ (v < 0x10000) × (tail b ≡ true) ⌝ }
     ensures { λ r. ⌜ r ≡ join v b ⌝ }
 {

@@ -1,12 +1,49 @@
 // Spaces taken off the ends.
 ghost use mathlib.Core.Path.{_≡_};
-ghost use lib.ListN.{drop};
-ghost use Rattle.text.specs.Utf8.{chars, encode};
-ghost use Rattle.text.specs.Trim.{trim-start, trim-end, trim, start-of, end-of, space-at, space-before};
+ghost use mathlib.Core.Bool.{_||_};
+ghost use Prim.Native.Nat.{_-_, _≤_, _<_};
+ghost use lib.Dec.{eqb};
+ghost use lib.ListN.{length, getD, drop};
+ghost use Rattle.text.specs.Chars.{within};
+ghost use Rattle.text.specs.Utf8.{chars, encode, char};
+ghost use Rattle.text.specs.Trim.{trim-start, trim-end, trim, start-of, end-of, wide-space, space-before};
 use crate::classes::is_space;
-use crate::decoding::code_at;
+use crate::decoding::byte;
+use crate::decoding::is_tail;
+use crate::decoding::join;
+use crate::decoding::when;
 use crate::decoding::wide;
-use crate::encoding::width;
+
+// An ASCII space.
+fn is_blank(b: u8) -> bool
+    ensures { λ r. ⌜ r ≡ within 9 13 b || eqb b 32 ⌝ }
+{
+    ((9 <= b) & (b <= 13)) | (b == 32)
+}
+
+// How many bytes the space at i has that is not ASCII; 0 where none stands there. Only C2, E1, E2 and E3 start one.
+fn wide_space(s: &[u8], i: usize) -> usize
+    requires { ⌜ i < length (now s) ⌝ }
+    ensures { λ r. ⌜ r ≡ wide-space (char (drop i (now (s .entry)))) ⌝ }
+{
+    let a = wide(s[i]);
+    if a == 0xC2 {
+        let b = byte(s, i + 1);
+        return when((b == 0x85) | (b == 0xA0), 2);
+    }
+    if a < 0xE1 {
+        return 0;
+    }
+    if 0xE3 < a {
+        return 0;
+    }
+    let b = byte(s, i + 1);
+    let c = byte(s, i + 2);
+    if !(is_tail(b) & is_tail(c)) {
+        return 0;
+    }
+    when(is_space(join(join(a - 0xE0, b), c)), 3)
+}
 
 // Where s starts without the spaces before it.
 pub fn start_of(s: &[u8]) -> usize
@@ -15,50 +52,34 @@ pub fn start_of(s: &[u8]) -> usize
     let mut i = 0;
     while i < s.len() {
         let b = s[i];
-        if b < 0x80 {
-            if !is_space(wide(b)) {
-                return i;
-            }
+        if is_blank(b) {
             i += 1;
             continue;
         }
-        let c = code_at(s, i);
-        if !is_space(c) {
+        let k = wide_space(s, i);
+        if k == 0 {
             return i;
         }
-        i += width(c);
+        i += k;
     }
     i
 }
 
-// Whether a space of k bytes stands at i.
-fn space_at(s: &[u8], i: usize, k: usize) -> bool
-    ensures { λ r. ⌜ r ≡ space-at (drop i (now (s .entry))) k ⌝ }
-{
-    let c = code_at(s, i);
-    is_space(c) & (width(c) == k)
-}
-
-// How many bytes the space has that ends before e; 0 where none does.
+// How many bytes the space before e has, whose last byte is not ASCII; 0 where none stands there.
 fn space_before(s: &[u8], e: usize) -> usize
+    requires { ⌜ (1 ≤ e) × ((e ≤ length (now s)) × (0x80 ≤ getD (now s) (e - 1) 0)) ⌝ }
     ensures { λ r. ⌜ r ≡ space-before (now (s .entry)) e ⌝ }
 {
-    if e < 1 {
-        return 0;
-    }
-    if space_at(s, e - 1, 1) {
-        return 1;
-    }
     if e < 2 {
         return 0;
     }
-    if space_at(s, e - 2, 2) {
+    if wide_space(s, e - 2) == 2 {
         return 2;
     }
     if e < 3 {
         return 0;
     }
-    if space_at(s, e - 3, 3) {
+    if wide_space(s, e - 3) == 3 {
         return 3;
     }
     0
@@ -71,12 +92,12 @@ pub fn end_of(s: &[u8]) -> usize
     let mut e = s.len();
     while 0 < e {
         let b = s[e - 1];
-        if b < 0x80 {
-            if !is_space(wide(b)) {
-                return e;
-            }
+        if is_blank(b) {
             e -= 1;
             continue;
+        }
+        if b < 0x80 {
+            return e;
         }
         let k = space_before(s, e);
         if k == 0 {

@@ -2,15 +2,14 @@
 -- Assumes nothing.
 use Prim.Native.Nat.{_≤_, _-_}
 use native.Mathlib.Omega.{arith}
-use mathlib.Core.Path.{_≡_, sym, ap, _∙_}
+use mathlib.Core.Path.{_≡_, sym, _∙_}
 use borrow.Author.Needs.{needs}
-use borrow.Author.Tests.{not-true, not-false}
 use lib.ListN.{length, take}
 use lib.Seq.{take-length}
-use Rattle.text.specs.Chars.{is-space}
 use Rattle.text.specs.Utf8.{chars}
 use Rattle.text.specs.Trim.{trim-end}
 use Rattle.text.proofs.TrimLaws.{end-at, end-nil, end-low-space, end-low-other, end-space, end-other}
+use Rattle.text.proofs.WideLaws.{blank-yes, blank-no}
 use Rattle.text.proofs.trimming.end_of.Statement.{statement}
 use Rattle.text.proofs.trimming.end_of.Tie as tie
 
@@ -22,9 +21,9 @@ abbrev μ-loop : tie.MeasureT-loop
 
 -- the space, not ASCII, that a turn takes off
 gone : (c : tie.Else3 Inv-loop μ-loop)
-    → (c .before .space-before .result ≤ c .before .before .before .before .before .loop .e)
-    × (trim-end (chars (take (c .before .before .before .before .before .loop .e) (c .before .before .before .before .before .before .before .args .s .now)))
-    ≡ trim-end (chars (take (c .before .before .before .before .before .loop .e - c .before .space-before .result) (c .before .before .before .before .before .before .before .args .s .now))))
+    → (c .before .space-before .result ≤ c .before .before .before .before .before .before .before .loop .e)
+    × (trim-end (chars (take (c .before .before .before .before .before .before .before .loop .e) (c .before .before .before .before .before .before .before .before .before .args .s .now)))
+    ≡ trim-end (chars (take (c .before .before .before .before .before .before .before .loop .e - c .before .space-before .result) (c .before .before .before .before .before .before .before .before .before .args .s .now))))
 gone c = end-space _ _ _ (c .before .space-before .ensures) (omega arith)
 
 loop-holds : tie.Need-loop-holds Inv-loop μ-loop
@@ -36,16 +35,8 @@ sub-b c = omega arith
 shared-slice-read-b : tie.Need-shared-slice-read-b Inv-loop μ-loop
 shared-slice-read-b c = omega arith
 
-wide-requires : tie.Need-wide-requires Inv-loop μ-loop
-wide-requires c κs = search needs
-
-is-space-requires : tie.Need-is-space-requires Inv-loop μ-loop
-is-space-requires c κs = search needs
-
-returns : tie.Need-returns Inv-loop μ-loop
-returns c =
-    let v = c .before .before .before .before .before .before .loop .inv in
-    sym (end-at _ _ (v .1) (sym (v .0) ∙ end-low-other (c .before .before .before .before .before .before .before .before .args .s .now) (c .before .before .before .before .before .before .loop .e) (omega arith) (v .1) (c .before .before .before .if1 .taken) (ap is-space (sym (c .before .before .wide .ensures)) ∙ sym (c .before .is-space .ensures) ∙ not-true (c .before .is-space .result) (c .if2 .taken))))
+is-blank-requires : tie.Need-is-blank-requires Inv-loop μ-loop
+is-blank-requires c κs = search needs
 
 sub-e : tie.Need-sub-e Inv-loop μ-loop
 sub-e c = omega arith
@@ -55,15 +46,21 @@ loop-less c = omega arith
 
 loop-again : tie.Need-loop-again Inv-loop μ-loop
 loop-again c =
-    let v = c .before .before .before .before .before .before .loop .inv in
-    (sym (end-low-space (c .before .before .before .before .before .before .before .before .args .s .now) (c .before .before .before .before .before .before .loop .e) (omega arith) (v .1) (c .before .before .before .if1 .taken) (ap is-space (sym (c .before .before .wide .ensures)) ∙ sym (c .before .is-space .ensures) ∙ not-false (c .before .is-space .result) (c .if2 .left))) ∙ v .0, omega arith)
+    let v = c .before .before .before .before .loop .inv in
+    let y = blank-yes _ (sym (c .before .is-blank .ensures) ∙ c .if1 .taken) in
+    (sym (end-low-space (c .before .before .before .before .before .before .args .s .now) (c .before .before .before .before .loop .e) (omega arith) (v .1) (y .0) (y .1)) ∙ v .0, omega arith)
+
+returns : tie.Need-returns Inv-loop μ-loop
+returns c =
+    let v = c .before .before .before .before .before .loop .inv in
+    sym (end-at _ _ (v .1) (sym (v .0) ∙ end-low-other (c .before .before .before .before .before .before .before .args .s .now) (c .before .before .before .before .before .loop .e) (omega arith) (v .1) (c .if2 .taken) (blank-no _ (c .if2 .taken) (sym (c .before .before .is-blank .ensures) ∙ c .before .if1 .left))))
 
 space-before-requires : tie.Need-space-before-requires Inv-loop μ-loop
-space-before-requires c κs = search needs
+space-before-requires c κs = (omega arith, (omega arith, omega arith))
 
 returns-2 : tie.Need-returns-2 Inv-loop μ-loop
 returns-2 c =
-    let v = c .before .before .before .before .before .loop .inv in
+    let v = c .before .before .before .before .before .before .before .loop .inv in
     sym (end-at _ _ (v .1) (sym (v .0) ∙ end-other _ _ (v .1) (sym (c .before .space-before .ensures) ∙ c .if3 .taken)))
 
 sub-e-2 : tie.Need-sub-e-2 Inv-loop μ-loop
@@ -73,7 +70,7 @@ loop-less-2 : tie.Need-loop-less-2 Inv-loop μ-loop
 loop-less-2 c = omega (arith, gone c .0)
 
 loop-again-2 : tie.Need-loop-again-2 Inv-loop μ-loop
-loop-again-2 c = (sym (gone c .1) ∙ c .before .before .before .before .before .loop .inv .0, omega arith)
+loop-again-2 c = (sym (gone c .1) ∙ c .before .before .before .before .before .before .before .loop .inv .0, omega arith)
 
 returns-3 : tie.Need-returns-3 Inv-loop μ-loop
 returns-3 c =
@@ -89,12 +86,11 @@ end-of-spec =
     loop-holds
     sub-b
     shared-slice-read-b
-    wide-requires
-    is-space-requires
-    returns
+    is-blank-requires
     sub-e
     loop-less
     loop-again
+    returns
     space-before-requires
     returns-2
     sub-e-2

@@ -1,17 +1,16 @@
 -- `text::start_of` meets its contract. The loop's invariant: what is left from i on trims to what all trims to.
 -- Assumes nothing.
-use Prim.Native.Nat.{_≤_, _-_}
+use Prim.Native.Nat.{_+_, _-_, _≤_}
 use native.Mathlib.Omega.{arith}
 use mathlib.Core.Path.{_≡_, refl, sym, ap, _∙_}
-use borrow.Author.Tests.{not-true, not-false}
+use borrow.Author.Needs.{needs}
 use lib.ListN.{length, drop}
 use Rattle.text.specs.Words.{drop-while}
-use Rattle.text.specs.Chars.{is-space}
 use Rattle.text.specs.Utf8.{chars}
 use Rattle.text.specs.Trim.{trim-start}
-use Rattle.text.proofs.Laws.{Turn, turn-is, advance-ascii, advance-end}
-use Rattle.text.proofs.TrimLaws.{start-at, start-space, start-other}
-use borrow.Author.Needs.{needs}
+use Rattle.text.proofs.Laws.{advance-ascii, advance-end}
+use Rattle.text.proofs.TrimLaws.{start-at, start-space}
+use Rattle.text.proofs.WideLaws.{blank-yes, wide-gone, none-gone}
 use Rattle.text.proofs.trimming.start_of.Statement.{statement}
 use Rattle.text.proofs.trimming.start_of.Tie as tie
 
@@ -21,26 +20,14 @@ Inv-loop s i₀ i = (trim-start (chars (drop i s)) ≡ trim-start (chars s)) × 
 abbrev μ-loop : tie.MeasureT-loop
 μ-loop s i₀ i = length s - i
 
--- the step over the character at i
-step : (c : tie.After-code-at Inv-loop μ-loop) → Turn (c .before .before .before .before .before .before .args .s .now) (c .before .before .before .before .loop .i) (c .code-at .result)
-step c = rw (c .code-at .ensures) (turn-is (c .before .before .before .before .before .before .args .s .now) (c .before .before .before .before .loop .i) (c .before .before .before .loop-test .taken))
-
 loop-holds : tie.Need-loop-holds Inv-loop μ-loop
 loop-holds c = (refl, omega arith)
 
 shared-slice-read-b : tie.Need-shared-slice-read-b Inv-loop μ-loop
 shared-slice-read-b c = omega arith
 
-wide-requires : tie.Need-wide-requires Inv-loop μ-loop
-wide-requires c κs = search needs
-
-is-space-requires : tie.Need-is-space-requires Inv-loop μ-loop
-is-space-requires c κs = search needs
-
-returns : tie.Need-returns Inv-loop μ-loop
-returns c =
-    let v = c .before .before .before .before .before .before .loop .inv in
-    sym (start-at _ _ (v .1) (sym (v .0) ∙ rw (advance-ascii (c .before .before .before .before .before .before .before .before .args .s .now) (c .before .before .before .before .before .before .loop .i) (c .before .before .before .before .before .loop-test .taken) (c .before .before .before .if1 .taken)) (start-other _ _ (ap is-space (sym (c .before .before .wide .ensures)) ∙ sym (c .before .is-space .ensures) ∙ not-true (c .before .is-space .result) (c .if2 .taken)))))
+is-blank-requires : tie.Need-is-blank-requires Inv-loop μ-loop
+is-blank-requires c κs = search needs
 
 add-i : tie.Need-add-i Inv-loop μ-loop
 add-i c = omega arith
@@ -50,37 +37,35 @@ loop-less c = omega arith
 
 loop-again : tie.Need-loop-again Inv-loop μ-loop
 loop-again c =
+    let y = blank-yes _ (sym (c .before .is-blank .ensures) ∙ c .if1 .taken) in
+    (sym (ap trim-start (advance-ascii (c .before .before .before .before .before .before .args .s .now) (c .before .before .before .before .loop .i) (c .before .before .before .loop-test .taken) (y .0)) ∙ start-space _ _ (y .1)) ∙ c .before .before .before .before .loop .inv .0, omega arith)
+
+wide-space-requires : tie.Need-wide-space-requires Inv-loop μ-loop
+wide-space-requires c κs = c .before .before .before .loop-test .taken
+
+returns : tie.Need-returns Inv-loop μ-loop
+returns c =
     let v = c .before .before .before .before .before .before .loop .inv in
-    (sym (ap trim-start (advance-ascii (c .before .before .before .before .before .before .before .before .args .s .now) (c .before .before .before .before .before .before .loop .i) (c .before .before .before .before .before .loop-test .taken) (c .before .before .before .if1 .taken)) ∙ start-space _ _ (ap is-space (sym (c .before .before .wide .ensures)) ∙ sym (c .before .is-space .ensures) ∙ not-false (c .before .is-space .result) (c .if2 .left))) ∙ v .0, omega arith)
+    sym (start-at _ _ (v .1) (sym (v .0) ∙ none-gone (c .before .before .before .before .before .before .before .before .args .s .now) (c .before .before .before .before .before .before .loop .i) (c .before .before .before .before .before .loop-test .taken) (sym (c .before .before .before .is-blank .ensures) ∙ c .before .before .if1 .left) (sym (c .before .wide-space .ensures) ∙ c .if2 .taken)))
 
-code-at-requires : tie.Need-code-at-requires Inv-loop μ-loop
-code-at-requires c κs = search needs
-
-is-space-requires-2 : tie.Need-is-space-requires-2 Inv-loop μ-loop
-is-space-requires-2 c κs = search needs
-
-returns-2 : tie.Need-returns-2 Inv-loop μ-loop
-returns-2 c =
-    let v = c .before .before .before .before .before .before .loop .inv in
-    sym (start-at _ _ (v .1) (sym (v .0) ∙ rw (step (c .before .before) .rest) (start-other _ _ (sym (c .before .is-space2 .ensures) ∙ not-true (c .before .is-space2 .result) (c .if3 .taken)))))
-
-width-requires : tie.Need-width-requires Inv-loop μ-loop
-width-requires c κs = search needs
+-- the space that a turn takes off
+gone : (c : tie.Else2 Inv-loop μ-loop)
+    → (c .before .before .before .before .before .before .loop .i + c .before .wide-space .result ≤ length (c .before .before .before .before .before .before .before .before .args .s .now))
+    × (trim-start (chars (drop (c .before .before .before .before .before .before .loop .i) (c .before .before .before .before .before .before .before .before .args .s .now))) ≡ trim-start (chars (drop (c .before .before .before .before .before .before .loop .i + c .before .wide-space .result) (c .before .before .before .before .before .before .before .before .args .s .now))))
+gone c = wide-gone (c .before .before .before .before .before .before .before .before .args .s .now) (c .before .before .before .before .before .before .loop .i) (c .before .before .before .before .before .loop-test .taken) _ (c .before .wide-space .ensures) (omega arith)
 
 add-i-2 : tie.Need-add-i-2 Inv-loop μ-loop
-add-i-2 c = let t = step (c .before .before .before) in omega (arith, c .width .ensures, t .bound)
+add-i-2 c = omega (arith, gone c .0)
 
 loop-less-2 : tie.Need-loop-less-2 Inv-loop μ-loop
-loop-less-2 c = let t = step (c .before .before .before) in omega (arith, c .width .ensures, t .low, t .bound)
+loop-less-2 c = omega (arith, gone c .0)
 
 loop-again-2 : tie.Need-loop-again-2 Inv-loop μ-loop
-loop-again-2 c =
-    let t = step (c .before .before .before) in
-    (rw (c .width .ensures) (sym (ap trim-start (t .rest) ∙ start-space _ _ (sym (c .before .before .is-space2 .ensures) ∙ not-false (c .before .before .is-space2 .result) (c .before .if3 .left))) ∙ c .before .before .before .before .before .before .before .loop .inv .0), omega (arith, c .width .ensures, t .bound))
+loop-again-2 c = (sym (gone c .1) ∙ c .before .before .before .before .before .before .loop .inv .0, gone c .0)
 
-returns-3 : tie.Need-returns-3 Inv-loop μ-loop
+returns-2 : tie.Need-returns-2 Inv-loop μ-loop
 unfolding drop-while
-returns-3 c =
+returns-2 c =
     let v = c .before .loop .inv in
     sym (start-at _ _ (v .1) (sym (v .0) ∙ rw (advance-end _ _ (c .loop-test .left))))
 
@@ -92,17 +77,13 @@ start-of-spec =
     μ-loop
     loop-holds
     shared-slice-read-b
-    wide-requires
-    is-space-requires
-    returns
+    is-blank-requires
     add-i
     loop-less
     loop-again
-    code-at-requires
-    is-space-requires-2
-    returns-2
-    width-requires
+    wide-space-requires
+    returns
     add-i-2
     loop-less-2
     loop-again-2
-    returns-3)
+    returns-2)
