@@ -14,11 +14,12 @@ use lib.Seq.{drop-cons, drop-drop, getD-take, take-append-le, drop-append-le, le
 use native.Mathlib.Nat.{add-zero}
 use Rattle.text.specs.Utf8.{encode, chars, char, size-of, size}
 use Rattle.text.specs.Words.{starts-with, all, take-while}
+use Rattle.text.specs.Run.{RunTo}
 use Rattle.text.specs.Chars.{is-digit, is-ascii, is-scalar, Ascii}
 use Rattle.text.proofs.Tests.{decide, on, and-true, and-false, false-true, within-above}
 use Rattle.text.proofs.Utf8.{utf8-1, char-1, char-ascii}
 use Rattle.text.proofs.Laws.{Next, next-is, Pos, pos-next, chars-nil, chars-at, size-encode}
-use Rattle.text.proofs.RunLaws.{run-le, run-take, run-all, run-next}
+use Rattle.text.proofs.RunLaws.{run-front}
 
 -- an ASCII byte is its own character
 pub chars-ascii : (x : ℕ) (xs : List ℕ) → x < 0x80 → chars (x ∷ xs) ≡ x ∷ chars xs
@@ -132,13 +133,10 @@ run-scalar (x ∷ s) =
     (λ h. rw (chars-ascii x s (ltb-true x 0x80 h), ascii-scalar x (ltb-true x 0x80 h)) (run-scalar s))
     (λ _. refl)
 
-pub run-to : (s : List ℕ) (i j : ℕ) → i ≤ length s → j ≡ i + length (take-while is-ascii (drop i s))
-    → (all is-scalar (chars (drop i s)) ≡ all is-scalar (chars (drop j s))) × (i ≤ j) × (j ≤ length s)
-run-to s i j l e =
-    let n = length (take-while is-ascii (drop i s)) in
-    let h = run-le is-ascii (drop i s) in
-    let d = length-drop i s in
-    (run-scalar (drop i s) ∙ rw (drop-drop n i s, e), omega arith, omega arith)
+pub run-to : (s : List ℕ) (i j : ℕ) → RunTo is-ascii s i j → all is-scalar (chars (drop i s)) ≡ all is-scalar (chars (drop j s))
+run-to s i j r =
+    run-scalar (drop i s)
+    ∙ rw (drop-drop (length (take-while is-ascii (drop i s))) i s, r .run, ← drop-drop (length (take-while is-ascii (drop j s))) j s) (sym (run-scalar (drop j s)))
 
 -- ---- from byte i, where character k stands, on over ASCII
 pos-ascii : (m : ℕ) (s : List ℕ) (i k : ℕ) → Pos s i k → i + m ≤ length s → all is-ascii (take m (drop i s)) ≡ true → Pos s (i + m) (k + m)
@@ -153,32 +151,20 @@ pos-ascii (suc m) s i k p l h =
     let y : k + suc m ≡ k + 1 + m = omega arith in
     rw (x, y) r
 
--- the run that ends at e, in the first j bytes
-module _ (s : List ℕ) (i j k e : ℕ) (l : i ≤ j) (h : j ≤ length s) (r : e ≡ i + length (take-while is-ascii (drop i (take j s)))) where
-  bound : (i ≤ e) × (e ≤ j)
-  bound =
-      let a = run-le is-ascii (drop i (take j s)) in
-      let b = length-drop i (take j s) in
-      let d = length-take-le j s h in
-      omega arith
-
-  pub pos-run : Pos s i k → (Pos s e (k + (e - i)) × (i ≤ e)) × (e ≤ j)
-  pos-run p =
-      let x = drop i (take j s) in
-      let m = length (take-while is-ascii x) in
-      let d = length-take-le j s h in
-      let a : drop i s ≡ x ++ drop j s = ap (drop i) (sym (take-append-drop j s)) ∙ drop-append-le i (take j s) (drop j s) (omega arith) in
-      let q : all is-ascii (take m (drop i s)) ≡ true =
-      ap (λ (y : List ℕ). all is-ascii (take m y)) a
-      ∙ ap (all is-ascii) (take-append-le m x (drop j s) (run-le is-ascii x) ∙ run-take is-ascii x)
-      ∙ run-all is-ascii x
-      in
-      let b = bound in
-      let z : e - i ≡ m = omega arith in
-      ((rw (z, r) (pos-ascii m s i k p (omega arith) q), b .0), b .1)
-
-  pub run-moves : i < j → getD s i 0 < 0x80 → i < e
-  run-moves n low =
-      let d = length-take-le j s h in
-      let z = run-next is-ascii (take j s) i (omega arith) (rw (getD-take j s i 0 n) (low-ascii (getD s i 0) low)) in
-      omega arith
+-- over a run up to e in the first j bytes
+pub pos-run : (s : List ℕ) (i j k e : ℕ) → j ≤ length s → RunTo is-ascii (take j s) i e → Pos s i k → Pos s e (k + (e - i)) × (e ≤ j)
+pos-run s i j k e h r p =
+    let x = drop i (take j s) in
+    let m = e - i in
+    let d = length-take-le j s h in
+    let n = length-drop i (take j s) in
+    let u = r .low in
+    let v = r .high in
+    let a : drop i s ≡ x ++ drop j s = ap (drop i) (sym (take-append-drop j s)) ∙ drop-append-le i (take j s) (drop j s) (omega arith) in
+    let q : all is-ascii (take m (drop i s)) ≡ true =
+    ap (λ (y : List ℕ). all is-ascii (take m y)) a
+    ∙ ap (all is-ascii) (take-append-le m x (drop j s) (omega arith))
+    ∙ run-front is-ascii (take j s) i e r
+    in
+    let z : i + m ≡ e = omega arith in
+    (rw z at (pos-ascii m s i k p (omega arith) q), omega arith)

@@ -1,6 +1,6 @@
 -- The laws of the run of elements that a list starts with: one turn of a loop that passes over it, element by element or by blocks.
 -- Assumes nothing.
-use Prim.Native.Nat.{ℕ, zero, suc, _+_, _≤_, _<_}
+use Prim.Native.Nat.{ℕ, zero, suc, _+_, _-_, _≤_, _<_}
 use mathlib.Core.Bool.{Bool, true, false, cond, _&&_, and-assoc, and-true as and-true-right}
 use mathlib.Core.List.{List, [], _∷_, _++_}
 use mathlib.Core.Path.{_≡_, refl, sym, ap, _∙_}
@@ -26,21 +26,30 @@ module _ (p : ℕ → Bool) where
   unfolding take-while
   run-end s j l = rw (drop-of-length-le s l)
 
-  -- the run is the front of the list, and passes
+  -- the run is the front of the list
   pub run-take : (s : List ℕ) → take (length (take-while p s)) s ≡ take-while p s
   unfolding take-while
   run-take [] = refl
   run-take (x ∷ s) = on (λ (l : List ℕ). take (length l) (x ∷ s) ≡ l) (p x) (λ _. ap (λ (l : List ℕ). x ∷ l) (run-take s)) (λ _. refl)
 
-  pub run-all : (s : List ℕ) → all p (take-while p s) ≡ true
-  unfolding take-while
-  run-all [] = refl
-  run-all (x ∷ s) = on (λ (l : List ℕ). all p l ≡ true) (p x) (λ e. rw e (run-all s)) (λ _. refl)
-
   pub run-le : (s : List ℕ) → length (take-while p s) ≤ length s
   unfolding take-while
   run-le [] = omega arith
   run-le (x ∷ s) = let h = run-le s in on (λ (l : List ℕ). length l ≤ suc (length s)) (p x) (λ _. omega arith) (λ _. omega arith)
+
+  -- what is in it passes
+  all-front : (m : ℕ) (s : List ℕ) → m ≤ length (take-while p s) → all p (take m s) ≡ true
+  unfolding take-while
+  all-front zero s l = refl
+  all-front (suc m) [] l = refl
+  all-front (suc m) (x ∷ s) l = go (all-front m s) (p x) refl l
+    where
+      go : (m ≤ length (take-while p s) → all p (take m s) ≡ true) → (t : Bool) → p x ≡ t → suc m ≤ length (cond t (x ∷ take-while p s) []) → p x && all p (take m s) ≡ true
+      go ih true e l = rw e (ih (omega arith))
+      go ih false e l = absurd (omega arith)
+
+  pub run-all : (s : List ℕ) → all p (take-while p s) ≡ true
+  run-all s = ap (all p) (sym (run-take s)) ∙ all-front (length (take-while p s)) s (omega arith)
 
   pub run-split : (s : List ℕ) → take-while p s ++ drop-while p s ≡ s
   unfolding take-while drop-while
@@ -101,3 +110,7 @@ module _ (p : ℕ → Bool) where
 
     pub at-end : (j : ℕ) → RunTo p s i j → length s ≤ j → i + length (take-while p (drop i s)) ≡ j
     at-end j h l = let r = h .run in let z = ap length (run-end s j l) in omega arith
+
+    -- what it passed
+    pub run-front : (j : ℕ) → RunTo p s i j → all p (take (j - i) (drop i s)) ≡ true
+    run-front j h = all-front (j - i) (drop i s) (let r = h .run in omega (arith, h .low))

@@ -1,15 +1,20 @@
--- The first two bytes of a character of three or four bytes: the rows of the table, where the second byte is a tail, by two tests.
+-- The first two bytes of a character of three or four bytes: the rows of the table, where the second byte is a tail, by the bits of both together.
 -- Assumes nothing.
-use Prim.Native.Nat.{ℕ, _≤_, _<_}
+use Prim.Native.Nat.{ℕ, _+_, _*_, _≤_, _<_}
 use native.Mathlib.Omega.{arith}
-use mathlib.Core.Path.{_≡_, refl}
-use mathlib.Core.Bool.{Bool, true, false, not, _&&_, _||_}
+use mathlib.Core.Path.{_≡_, refl, sym, ap, _∙_}
+use mathlib.Core.Bool.{Bool, true, false, not, _&&_}
+use mathlib.Core.List.{List}
 use mathlib.Core.Logic.{⊎-elim}
-use lib.Dec.{eqb, ltb, leb}
-use borrow.Author.Tests.{eq-eqb, ne-eqb, ltb-true, ltb-false, le-leb, lt-ltb}
+use lib.Dec.{ltb, leb}
+use lib.ListN.{length, getD, drop, List·getD-eq-default}
+use borrow.Author.Tests.{ltb-true, ltb-false, leb-true, leb-false, le-leb, lt-leb}
 use Rattle.text.specs.Words.{if_then_else_}
-use Rattle.text.specs.Utf8.{tail, starts3, starts4}
-use Rattle.text.proofs.Tests.{decide, within-true, within-is, within-below, within-above}
+use Rattle.text.specs.Chars.{within}
+use Rattle.text.specs.Utf8.{tail, starts3, starts4, char-of, char, char-size}
+use Rattle.text.specs.declared.Char.{Char}
+use Rattle.text.proofs.Utf8.{two-bytes, three-bytes, four-bytes, char-drop}
+use Rattle.text.proofs.Tests.{decide, on, within-true, within-is, within-below, within-above}
 
 -- a test that is right where the byte is a tail serves behind the test for a tail
 pub after-tail : (t u r x : Bool) (n : ℕ) → (t ≡ true → r ≡ x) → (if t && u && r then n else 0) ≡ (if t && u && x then n else 0)
@@ -21,7 +26,10 @@ after-tail-2 true u v r x n f = rw (f refl)
 after-tail-2 false u v r x n f = refl
 
 module _ (a b : ℕ) (t : tail b ≡ true) where
-  pub start3-is : 0xE0 ≤ a → a < 0xF0 → (not (eqb a 0xE0) || leb 0xA0 b) && (not (eqb a 0xED) || ltb b 0xA0) ≡ starts3 a b
+  abbrev AB : ℕ
+  AB = a * 64 + b
+
+  pub start3-is : 0xE0 ≤ a → a < 0xF0 → leb 0x38A0 AB && not (within 0x3BE0 0x3BFF AB) ≡ starts3 a b
   unfolding starts3
   start3-is l h =
       let p = within-true 0x80 0xBF b t in
@@ -31,30 +39,31 @@ module _ (a b : ℕ) (t : tail b ≡ true) where
       (λ e.
       let k = ltb-true a 0xE1 e in
       ⊎-elim
-      (λ f. simp (eq-eqb a 0xE0 (omega arith), ne-eqb a 0xED (omega arith), within-is 0xE0 0xE0 a l (omega arith), within-below 0xE1 0xEC a k, within-below 0xED 0xED a (omega arith), within-below 0xEE 0xEF a (omega arith), f, le-leb b 0xBF hi))
-      (λ f. simp (eq-eqb a 0xE0 (omega arith), ne-eqb a 0xED (omega arith), within-is 0xE0 0xE0 a l (omega arith), within-below 0xE1 0xEC a k, within-below 0xED 0xED a (omega arith), within-below 0xEE 0xEF a (omega arith), f))
+      (λ f. let m = leb-true 0xA0 b f in simp (le-leb 0x38A0 AB (omega arith), within-below 0x3BE0 0x3BFF AB (omega arith), within-is 0xE0 0xE0 a l (omega arith), f, le-leb b 0xBF hi))
+      (λ f. let m = leb-false 0xA0 b f in simp (lt-leb 0x38A0 AB (omega arith), within-is 0xE0 0xE0 a l (omega arith), within-below 0xE1 0xEC a k, within-below 0xED 0xED a (omega arith), within-below 0xEE 0xEF a (omega arith), f))
       (decide (leb 0xA0 b)))
       (λ e.
       let k = ltb-false a 0xE1 e in
+      let j = le-leb 0x38A0 AB (omega arith) in
       ⊎-elim
-      (λ f. let m = ltb-true a 0xED f in simp (ne-eqb a 0xE0 (omega arith), ne-eqb a 0xED (omega arith), within-above 0xE0 0xE0 a l (omega arith), within-is 0xE1 0xEC a k (omega arith), t))
+      (λ f. let m = ltb-true a 0xED f in simp (j, within-below 0x3BE0 0x3BFF AB (omega arith), within-above 0xE0 0xE0 a l (omega arith), within-is 0xE1 0xEC a k (omega arith), t))
       (λ f.
       let m = ltb-false a 0xED f in
       ⊎-elim
       (λ g.
       let n = ltb-true a 0xEE g in
       ⊎-elim
-      (λ q. simp (ne-eqb a 0xE0 (omega arith), eq-eqb a 0xED (omega arith), within-above 0xE0 0xE0 a l (omega arith), within-above 0xE1 0xEC a k (omega arith), within-is 0xED 0xED a m (omega arith), within-below 0xEE 0xEF a n, q, within-is 0x80 0x9F b lo (omega (arith, ltb-true b 0xA0 q))))
-      (λ q. simp (ne-eqb a 0xE0 (omega arith), eq-eqb a 0xED (omega arith), within-above 0xE0 0xE0 a l (omega arith), within-above 0xE1 0xEC a k (omega arith), within-is 0xED 0xED a m (omega arith), within-below 0xEE 0xEF a n, q, within-above 0x80 0x9F b lo (omega (arith, ltb-false b 0xA0 q))))
+      (λ q. let r = ltb-true b 0xA0 q in simp (j, within-below 0x3BE0 0x3BFF AB (omega arith), within-above 0xE0 0xE0 a l (omega arith), within-above 0xE1 0xEC a k (omega arith), within-is 0xED 0xED a m (omega arith), within-is 0x80 0x9F b lo (omega arith)))
+      (λ q. let r = ltb-false b 0xA0 q in simp (j, within-is 0x3BE0 0x3BFF AB (omega arith) (omega arith), within-above 0xE0 0xE0 a l (omega arith), within-above 0xE1 0xEC a k (omega arith), within-is 0xED 0xED a m (omega arith), within-below 0xEE 0xEF a n, within-above 0x80 0x9F b lo (omega arith)))
       (decide (ltb b 0xA0)))
       (λ g.
       let n = ltb-false a 0xEE g in
-      simp (ne-eqb a 0xE0 (omega arith), ne-eqb a 0xED (omega arith), within-above 0xE0 0xE0 a l (omega arith), within-above 0xE1 0xEC a k (omega arith), within-above 0xED 0xED a m (omega arith), within-is 0xEE 0xEF a n (omega arith), t))
+      simp (j, within-above 0x3BE0 0x3BFF AB (omega arith) (omega arith), within-above 0xE0 0xE0 a l (omega arith), within-above 0xE1 0xEC a k (omega arith), within-above 0xED 0xED a m (omega arith), within-is 0xEE 0xEF a n (omega arith), t))
       (decide (ltb a 0xEE)))
       (decide (ltb a 0xED)))
       (decide (ltb a 0xE1))
 
-  pub start4-is : 0xF0 ≤ a → (not (eqb a 0xF0) || leb 0x90 b) && (not (eqb a 0xF4) || ltb b 0x90) && ltb a 0xF5 ≡ starts4 a b
+  pub start4-is : 0xF0 ≤ a → within 0x3C90 0x3D8F AB ≡ starts4 a b
   unfolding starts4
   start4-is l =
       let p = within-true 0x80 0xBF b t in
@@ -64,25 +73,68 @@ module _ (a b : ℕ) (t : tail b ≡ true) where
       (λ e.
       let k = ltb-true a 0xF1 e in
       ⊎-elim
-      (λ f. simp (eq-eqb a 0xF0 (omega arith), ne-eqb a 0xF4 (omega arith), lt-ltb a 0xF5 (omega arith), within-is 0xF0 0xF0 a l (omega arith), within-below 0xF1 0xF3 a k, within-below 0xF4 0xF4 a (omega arith), f, le-leb b 0xBF hi))
-      (λ f. simp (eq-eqb a 0xF0 (omega arith), ne-eqb a 0xF4 (omega arith), lt-ltb a 0xF5 (omega arith), within-is 0xF0 0xF0 a l (omega arith), within-below 0xF1 0xF3 a k, within-below 0xF4 0xF4 a (omega arith), f))
+      (λ f. let m = leb-true 0x90 b f in simp (within-is 0x3C90 0x3D8F AB (omega arith) (omega arith), within-is 0xF0 0xF0 a l (omega arith), f, le-leb b 0xBF hi))
+      (λ f. let m = leb-false 0x90 b f in simp (within-below 0x3C90 0x3D8F AB (omega arith), within-is 0xF0 0xF0 a l (omega arith), within-below 0xF1 0xF3 a k, within-below 0xF4 0xF4 a (omega arith), f))
       (decide (leb 0x90 b)))
       (λ e.
       let k = ltb-false a 0xF1 e in
       ⊎-elim
-      (λ f. let m = ltb-true a 0xF4 f in simp (ne-eqb a 0xF0 (omega arith), ne-eqb a 0xF4 (omega arith), lt-ltb a 0xF5 (omega arith), within-above 0xF0 0xF0 a l (omega arith), within-is 0xF1 0xF3 a k (omega arith), t))
+      (λ f. let m = ltb-true a 0xF4 f in simp (within-is 0x3C90 0x3D8F AB (omega arith) (omega arith), within-above 0xF0 0xF0 a l (omega arith), within-is 0xF1 0xF3 a k (omega arith), t))
       (λ f.
       let m = ltb-false a 0xF4 f in
       ⊎-elim
       (λ g.
       let n = ltb-true a 0xF5 g in
       ⊎-elim
-      (λ q. simp (ne-eqb a 0xF0 (omega arith), eq-eqb a 0xF4 (omega arith), g, within-above 0xF0 0xF0 a l (omega arith), within-above 0xF1 0xF3 a k (omega arith), within-is 0xF4 0xF4 a m (omega arith), q, within-is 0x80 0x8F b lo (omega (arith, ltb-true b 0x90 q))))
-      (λ q. simp (ne-eqb a 0xF0 (omega arith), eq-eqb a 0xF4 (omega arith), g, within-above 0xF0 0xF0 a l (omega arith), within-above 0xF1 0xF3 a k (omega arith), within-is 0xF4 0xF4 a m (omega arith), q, within-above 0x80 0x8F b lo (omega (arith, ltb-false b 0x90 q))))
+      (λ q. let r = ltb-true b 0x90 q in simp (within-is 0x3C90 0x3D8F AB (omega arith) (omega arith), within-above 0xF0 0xF0 a l (omega arith), within-above 0xF1 0xF3 a k (omega arith), within-is 0xF4 0xF4 a m (omega arith), within-is 0x80 0x8F b lo (omega arith)))
+      (λ q. let r = ltb-false b 0x90 q in simp (within-above 0x3C90 0x3D8F AB (omega arith) (omega arith), within-above 0xF0 0xF0 a l (omega arith), within-above 0xF1 0xF3 a k (omega arith), within-is 0xF4 0xF4 a m (omega arith), within-above 0x80 0x8F b lo (omega arith)))
       (decide (ltb b 0x90)))
       (λ g.
       let n = ltb-false a 0xF5 g in
-      simp (ne-eqb a 0xF0 (omega arith), ne-eqb a 0xF4 (omega arith), g, within-above 0xF0 0xF0 a l (omega arith), within-above 0xF1 0xF3 a k (omega arith), within-above 0xF4 0xF4 a m (omega arith)))
+      simp (within-above 0x3C90 0x3D8F AB (omega arith) (omega arith), within-above 0xF0 0xF0 a l (omega arith), within-above 0xF1 0xF3 a k (omega arith), within-above 0xF4 0xF4 a m (omega arith)))
       (decide (ltb a 0xF5)))
       (decide (ltb a 0xF4)))
       (decide (ltb a 0xF1))
+
+-- ---- how many bytes the character at an offset has where no ASCII stands, by as many bytes as its first asks for
+module _ (s : List ℕ) (i : ℕ) (l : i < length s) (high : 0x7F < getD s i 0) where
+  abbrev A : ℕ
+  A = getD s i 0
+
+  abbrev S : ℕ
+  S = char-size (char (drop i s))
+
+  past-end : (k : ℕ) → length s ≤ k → tail (getD s k 0) ≡ false
+  past-end k h = rw (List·getD-eq-default s 0 h)
+
+  pub short-2 : length s < i + 2 → 0 ≡ S
+  unfolding char-of
+  short-2 h = rw (char-drop s i l, lt-leb A 0x7F high, past-end (i + 1) (omega arith))
+
+  pub short-3 : 0xE0 ≤ A → length s < i + 3 → 0 ≡ S
+  unfolding char-of
+  short-3 g h =
+      rw (char-drop s i l, lt-leb A 0x7F high, within-above 0xC2 0xDF A (omega arith) (omega arith), past-end (i + 2) (omega arith))
+      (on (λ (x : Char). 0 ≡ char-size x) (tail (getD s (i + 1) 0)) (λ _. refl) (λ _. refl))
+
+  pub short-4 : 0xF0 ≤ A → length s < i + 4 → 0 ≡ S
+  short-4 g h =
+      rw (char-drop s i l, ← four-bytes A (getD s (i + 1) 0) (getD s (i + 2) 0) (getD s (i + 3) 0) high g, past-end (i + 3) (omega arith))
+      (by (tail (getD s (i + 1) 0)) (tail (getD s (i + 2) 0)))
+    where
+      by : (t u : Bool) → _≡_ {A = ℕ} 0 (if t && u && false && starts4 A (getD s (i + 1) 0) then 4 else 0)
+      by true true = refl
+      by true false = refl
+      by false u = refl
+
+  pub two-of : A < 0xE0 → char-size (char-of A (getD s (i + 1) 0) 0 0) ≡ S
+  two-of h =
+      sym (two-bytes A (getD s (i + 1) 0) 0 0 high h)
+      ∙ two-bytes A (getD s (i + 1) 0) (getD s (i + 2) 0) (getD s (i + 3) 0) high h
+      ∙ ap char-size (sym (char-drop s i l))
+
+  pub three-of : 0xE0 ≤ A → A < 0xF0 → char-size (char-of A (getD s (i + 1) 0) (getD s (i + 2) 0) 0) ≡ S
+  three-of g h =
+      sym (three-bytes A (getD s (i + 1) 0) (getD s (i + 2) 0) 0 high g h)
+      ∙ three-bytes A (getD s (i + 1) 0) (getD s (i + 2) 0) (getD s (i + 3) 0) high g h
+      ∙ ap char-size (sym (char-drop s i l))

@@ -2,13 +2,13 @@
 -- A byte that belongs to no character is kept, as the code `0x110000 + byte`, which is no character's. So every list of bytes
 -- has its characters, and they encode to the same bytes; the bytes are UTF-8 where each of the characters is a scalar value.
 -- Assumes nothing.
-use Prim.Native.Nat.{ℕ, suc, zero, pred, _+_, _*_, _-_, _/_, _%_, _≤_, _<_}
+use Prim.Native.Nat.{ℕ, suc, zero, pred, _+_, _*_, _-_, _/_, _%_, _≤_}
 use mathlib.Core.Bool.{Bool, _&&_, _||_}
 use mathlib.Core.List.{List, [], _∷_, _++_}
 use mathlib.Core.Option.{Option, none, some}
 use mathlib.Core.Logic.{_⊎_}
 use mathlib.Core.Path.{_≡_}
-use lib.Dec.{leb, ltb, eqb}
+use lib.Dec.{leb, ltb}
 use lib.ListN.{length, getD, drop}
 use Rattle.text.specs.Words.{if_then_else_, all}
 use Rattle.text.specs.Chars.{within, is-scalar}

@@ -6,7 +6,7 @@ ghost use lib.ListN.{length, getD, drop};
 ghost use Rattle.text.specs.Words.{if_then_else_};
 ghost use Rattle.text.specs.Utf8.{tail, starts3, starts4, join, char-of, char, size-of, char-size, char-code, FourAt, code-at, is-utf8};
 use crate::Char;
-use crate::ascii::ascii_end;
+use crate::ascii::past_ascii;
 use crate::classes::within;
 use crate::encoding::width;
 
@@ -31,18 +31,19 @@ pub(crate) fn is_tail(b: u32) -> bool
 
 // Whether a character of three bytes may start with a and the tail b: it is neither overlong nor a surrogate.
 fn is_start3(a: u32, b: u32) -> bool
-    requires { ⌜ (0xE0 ≤ a) × (a < 0xF0) ⌝ }
+    requires { ⌜ (0xE0 ≤ a) × ((a < 0xF0) × (b < 0x100)) ⌝ }
     ensures { λ r. ⌜ (tail b ≡ true → r ≡ starts3 a b) ⌝ }
 {
-    ((a != 0xE0) | (0xA0 <= b)) & ((a != 0xED) | (b < 0xA0))
+    let v = a * 64 + b;
+    (0x38A0 <= v) & !within(0x3BE0, 0x3BFF, v)
 }
 
 // Whether one of four bytes may: it is neither overlong nor above 0x10FFFF.
 fn is_start4(a: u32, b: u32) -> bool
-    requires { ⌜ 0xF0 ≤ a ⌝ }
+    requires { ⌜ (0xF0 ≤ a) × ((a < 0x100) × (b < 0x100)) ⌝ }
     ensures { λ r. ⌜ (tail b ≡ true → r ≡ starts4 a b) ⌝ }
 {
-    ((a != 0xF0) | (0x90 <= b)) & ((a != 0xF4) | (b < 0x90)) & (a < 0xF5)
+    within(0x3C90, 0x3D8F, a * 64 + b)
 }
 
 // A size, or 0.
@@ -54,6 +55,7 @@ pub(crate) fn when(t: bool, n: usize) -> usize
 
 // How many bytes the character has that the bytes a b c d start with; 0 where they start none.
 fn size_of(a: u32, b: u32, c: u32, d: u32) -> usize
+    requires { ⌜ (a < 0x100) × (b < 0x100) ⌝ }
     ensures { λ r. ⌜ r ≡ char-size (char-of a b c d) ⌝ }
 {
     if a <= 0x7F {
@@ -95,7 +97,7 @@ fn code_of(n: usize, a: u32, b: u32, c: u32, d: u32) -> u32
 
 // The code that the bytes a b c d start with: a character, or 0x110000 and the byte a.
 fn code_or_stray(a: u32, b: u32, c: u32, d: u32) -> u32
-    requires { ⌜ a < 0x100 ⌝ }
+    requires { ⌜ (a < 0x100) × (b < 0x100) ⌝ }
     ensures { λ r. ⌜ r ≡ char-code (char-of a b c d) a ⌝ }
 {
     let n = size_of(a, b, c, d);
@@ -134,13 +136,31 @@ fn four_at(s: &[u8], i: usize) -> Four
     }
 }
 
-// How many bytes the character at i has; 0 where none starts.
+// How many bytes the character at i has, where no ASCII stands; 0 where none starts. No byte is read that its first byte does not ask for.
 fn char_size(s: &[u8], i: usize) -> usize
-    requires { ⌜ i < length (now s) ⌝ }
+    requires { ⌜ (i < length (now s)) × (0x80 ≤ getD (now s) i 0) ⌝ }
     ensures { λ r. ⌜ r ≡ char-size (char (drop i (now (s .entry)))) ⌝ }
 {
-    let f = four_at(s, i);
-    size_of(f.a, f.b, f.c, f.d)
+    let left = s.len() - i;
+    if left < 2 {
+        return 0;
+    }
+    let a = wide(s[i]);
+    let b = wide(s[i + 1]);
+    if a < 0xE0 {
+        return size_of(a, b, 0, 0);
+    }
+    if left < 3 {
+        return 0;
+    }
+    let c = wide(s[i + 2]);
+    if a < 0xF0 {
+        return size_of(a, b, c, 0);
+    }
+    if left < 4 {
+        return 0;
+    }
+    size_of(a, b, c, wide(s[i + 3]))
 }
 
 // The code at i: a character, or 0x110000 and a byte that starts none; 0 at the end.
@@ -185,7 +205,7 @@ pub fn is_utf8(s: &[u8]) -> bool
     let mut i = 0;
     while i < s.len() {
         if s[i] < 0x80 {
-            i = ascii_end(s, i);
+            i = past_ascii(s, i);
             continue;
         }
         let n = char_size(s, i);

@@ -7,7 +7,6 @@ mod parts;
 mod search;
 mod trimming;
 
-pub use ascii::ascii_end;
 pub use classes::is_control;
 pub use classes::is_digit;
 pub use classes::is_scalar;

@@ -39,7 +39,7 @@ loop-again : tie.Need-loop-again Inv-loop μ-loop
 loop-again c =
     let v = c .before .before .before .loop .inv in
     let h = v .high in
-    past-block is-ascii _ _ 64 _ v (omega arith) (sym (c .before .is-ascii-block .ensures) ∙ not-false (c .before .is-ascii-block .result) (c .if1 .left))
+    past-block is-ascii _ _ 32 _ v (omega arith) (sym (c .before .is-ascii-block .ensures) ∙ not-false (c .before .is-ascii-block .result) (c .if1 .left))
 
 returns-2 : tie.Need-returns-2 Inv-loop μ-loop
 returns-2 c = c .before .loop .inv

@@ -5,12 +5,10 @@ use native.Mathlib.Omega.{arith}
 use mathlib.Core.Path.{_≡_, refl, sym, _∙_}
 use lib.ListN.{length, drop}
 use Rattle.text.specs.Words.{all}
-use Rattle.text.specs.Chars.{is-ascii, is-scalar}
+use Rattle.text.specs.Chars.{is-scalar}
 use Rattle.text.specs.Utf8.{chars, is-utf8}
 use Rattle.text.proofs.Laws.{Step, advance-end, no-char, some-char, stuck, scalar-is}
-use Rattle.text.proofs.RunLaws.{run-next}
-use Rattle.text.proofs.AsciiLaws.{low-ascii, run-to}
-use borrow.Author.Needs.{needs}
+use Rattle.text.proofs.AsciiLaws.{run-to}
 use Rattle.text.proofs.decoding.is_utf8.Statement.{statement}
 use Rattle.text.proofs.decoding.is_utf8.Tie as tie
 
@@ -30,17 +28,14 @@ loop-holds c = (refl, omega arith)
 shared-slice-read-if1 : tie.Need-shared-slice-read-if1 Inv-loop μ-loop
 shared-slice-read-if1 c = omega arith
 
-ascii-end-requires : tie.Need-ascii-end-requires Inv-loop μ-loop
-ascii-end-requires c κs = search needs
+past-ascii-requires : tie.Need-past-ascii-requires Inv-loop μ-loop
+past-ascii-requires c κs = (omega arith, c .if1 .taken)
 
 loop-less : tie.Need-loop-less Inv-loop μ-loop
-loop-less c =
-    let z = run-next is-ascii (c .before .before .before .before .before .before .args .s .now) (c .before .before .before .before .loop .i) (c .before .before .before .loop-test .taken) (low-ascii _ (c .before .if1 .taken)) in
-    let e = c .ascii-end .ensures in
-    omega arith
+loop-less c = omega (arith, c .past-ascii .ensures .1, c .past-ascii .ensures .0 .high)
 
 loop-again : tie.Need-loop-again Inv-loop μ-loop
-loop-again c = let r = run-to (c .before .before .before .before .before .before .args .s .now) (c .before .before .before .before .loop .i) (c .ascii-end .result) (omega arith) (c .ascii-end .ensures) in (c .before .before .before .before .loop .inv .0 ∙ r .0, r .2)
+loop-again c = (c .before .before .before .before .loop .inv .0 ∙ run-to _ _ _ (c .past-ascii .ensures .0), c .past-ascii .ensures .0 .high)
 
 char-size-requires : tie.Need-char-size-requires Inv-loop μ-loop
 char-size-requires c κs = omega arith
@@ -65,4 +60,4 @@ unfolding is-utf8
 returns-2 c = sym (c .before .loop .inv .0 ∙ rw (advance-end _ _ (c .loop-test .left)))
 
 pub is-utf8-spec : {M : Type 1} → statement M
-is-utf8-spec = tie.close (tie.spec Inv-loop μ-loop loop-holds shared-slice-read-if1 ascii-end-requires loop-less loop-again char-size-requires returns add-i loop-less-2 loop-again-2 returns-2)
+is-utf8-spec = tie.close (tie.spec Inv-loop μ-loop loop-holds shared-slice-read-if1 past-ascii-requires loop-less loop-again char-size-requires returns add-i loop-less-2 loop-again-2 returns-2)

@@ -34,7 +34,7 @@ is-tail-requires-3 : tie.Need-is-tail-requires-3
 is-tail-requires-3 c κs = search needs
 
 is-start3-requires : tie.Need-is-start3-requires
-is-start3-requires c κs = (c .before .before .before .if2 .left, c .before .before .if3 .taken)
+is-start3-requires c κs = search needs
 
 when-requires-2 : tie.Need-when-requires-2
 when-requires-2 c κs = search needs
@@ -54,7 +54,7 @@ is-tail-requires-6 : tie.Need-is-tail-requires-6
 is-tail-requires-6 c κs = search needs
 
 is-start4-requires : tie.Need-is-start4-requires
-is-start4-requires c κs = c .before .before .before .if3 .left
+is-start4-requires c κs = search needs
 
 when-requires-3 : tie.Need-when-requires-3
 when-requires-3 c κs = search needs

@@ -5,10 +5,10 @@ use native.Mathlib.Omega.{arith}
 use mathlib.Core.Path.{_≡_, sym, ap, _∙_}
 use borrow.Author.Needs.{needs}
 use lib.ListN.{length, length-drop, drop}
-use lib.Seq.{length-take-le, take-all}
+use lib.Seq.{length-take-le, getD-take, take-all}
 use Rattle.text.specs.Utf8.{chars, encode}
 use Rattle.text.proofs.Laws.{Next, next-is, Pos, pos-zero, pos-next, encode-chars, chars-length}
-use Rattle.text.proofs.AsciiLaws.{pos-run, run-moves}
+use Rattle.text.proofs.AsciiLaws.{pos-run}
 use Rattle.text.proofs.parts.first.Statement.{statement}
 use Rattle.text.proofs.parts.first.Tie as tie
 
@@ -23,14 +23,13 @@ step : (c : tie.After-size-at Inv-loop μ-loop) → Next (c .before .before .bef
 step c = rw (c .size-at .ensures) (next-is _ _ (let h = c .before .before .before .before .before .loop .inv .0 .bound in omega arith))
 
 -- the run of ASCII that a turn passes over
-passed : (c : tie.After-ascii-end Inv-loop μ-loop)
-    → (Pos (c .before .before .before .before .before .before .before .before .args .s .now) (c .ascii-end .result) (c .before .before .before .before .before .before .loop .k + (c .ascii-end .result - c .before .before .before .before .before .before .loop .i))
-    × (c .before .before .before .before .before .before .loop .i ≤ c .ascii-end .result))
-    × (c .ascii-end .result ≤ c .before .before .before .before .before .before .loop .i + (c .before .before .before .before .before .before .before .before .args .n - c .before .before .before .before .before .before .loop .k))
+passed : (c : tie.After-past-ascii Inv-loop μ-loop)
+    → Pos (c .before .before .before .before .before .before .before .before .args .s .now) (c .past-ascii .result) (c .before .before .before .before .before .before .loop .k + (c .past-ascii .result - c .before .before .before .before .before .before .loop .i))
+    × (c .past-ascii .result ≤ c .before .before .before .before .before .before .loop .i + (c .before .before .before .before .before .before .before .before .args .n - c .before .before .before .before .before .before .loop .k))
 passed c =
     let p = c .before .before .before .before .before .before .loop .inv .0 in
     let b = p .bound in
-    pos-run (c .before .before .before .before .before .before .before .before .args .s .now) (c .before .before .before .before .before .before .loop .i) (c .before .before .before .before .before .before .loop .i + (c .before .before .before .before .before .before .before .before .args .n - c .before .before .before .before .before .before .loop .k)) (c .before .before .before .before .before .before .loop .k) (c .ascii-end .result) (omega arith) (omega arith) (c .ascii-end .ensures) p
+    pos-run (c .before .before .before .before .before .before .before .before .args .s .now) (c .before .before .before .before .before .before .loop .i) (c .before .before .before .before .before .before .loop .i + (c .before .before .before .before .before .before .before .before .args .n - c .before .before .before .before .before .before .loop .k)) (c .before .before .before .before .before .before .loop .k) (c .past-ascii .result) (omega arith) (c .past-ascii .ensures .0) p
 
 loop-holds : tie.Need-loop-holds Inv-loop μ-loop
 loop-holds c = (pos-zero _, omega arith)
@@ -58,27 +57,28 @@ shared-slice-read-if2 c = let h = c .before .before .before .loop .inv .0 .bound
 add-j : tie.Need-add-j Inv-loop μ-loop
 add-j c = let h = c .before .before .before .before .loop .inv .0 .bound in omega arith
 
-slice-aggregate-ascii-end : tie.Need-slice-aggregate-ascii-end Inv-loop μ-loop
-slice-aggregate-ascii-end c = let h = c .before .before .before .before .before .loop .inv .0 .bound in sym (length-take-le _ _ (omega arith))
+slice-aggregate-past-ascii : tie.Need-slice-aggregate-past-ascii Inv-loop μ-loop
+slice-aggregate-past-ascii c = let h = c .before .before .before .before .before .loop .inv .0 .bound in sym (length-take-le _ _ (omega arith))
 
-ascii-end-requires : tie.Need-ascii-end-requires Inv-loop μ-loop
-ascii-end-requires c κs = search needs
+past-ascii-requires : tie.Need-past-ascii-requires Inv-loop μ-loop
+past-ascii-requires c κs =
+    let s = c .before .before .before .before .before .before .before .args .s .now in
+    let i = c .before .before .before .before .before .loop .i in
+    let m = c .before .before .before .before .before .before .before .args .n - c .before .before .before .before .before .loop .k in
+    let b = c .before .before .before .before .before .loop .inv .0 .bound in
+    (rw (length-take-le (i + m) s (omega arith)) (omega arith), rw (getD-take (i + m) s i 0 (omega arith)) (c .before .if2 .taken))
 
 sub-k : tie.Need-sub-k Inv-loop μ-loop
-sub-k c = passed c .0 .1
+sub-k c = omega (arith, c .past-ascii .ensures .1)
 
 add-k : tie.Need-add-k Inv-loop μ-loop
-add-k c = let h = passed c .1 in omega arith
+add-k c = omega (arith, passed c .1, c .past-ascii .ensures .1)
 
 loop-less : tie.Need-loop-less Inv-loop μ-loop
-loop-less c =
-    let h = passed c in
-    let b = c .before .before .before .before .before .before .loop .inv .0 .bound in
-    let l = run-moves (c .before .before .before .before .before .before .before .before .args .s .now) (c .before .before .before .before .before .before .loop .i) (c .before .before .before .before .before .before .loop .i + (c .before .before .before .before .before .before .before .before .args .n - c .before .before .before .before .before .before .loop .k)) (c .before .before .before .before .before .before .loop .k) (c .ascii-end .result) (omega arith) (omega arith) (c .ascii-end .ensures) (omega arith) (c .before .before .if2 .taken) in
-    omega (arith, h .1)
+loop-less c = omega (arith, passed c .1, c .past-ascii .ensures .1)
 
 loop-again : tie.Need-loop-again Inv-loop μ-loop
-loop-again c = let h = passed c in (h .0 .0, omega (arith, h .1, h .0 .1))
+loop-again c = let h = passed c in (h .0, omega (arith, h .1, c .past-ascii .ensures .1))
 
 size-at-requires : tie.Need-size-at-requires Inv-loop μ-loop
 size-at-requires c κs = search needs
@@ -116,8 +116,8 @@ first-spec =
     returns
     shared-slice-read-if2
     add-j
-    slice-aggregate-ascii-end
-    ascii-end-requires
+    slice-aggregate-past-ascii
+    past-ascii-requires
     sub-k
     add-k
     loop-less
