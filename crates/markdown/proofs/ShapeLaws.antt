@@ -4,18 +4,17 @@ use Prim.Native.Nat.{ℕ, suc, _+_, _-_, _/_, _≤_, _<_, min}
 use mathlib.Core.Bool.{true, false, _&&_, _||_, and-true as and-true-right, Bool}
 use mathlib.Core.Option.{none, some}
 use mathlib.Core.List.{List, [], _∷_, _++_}
-use mathlib.Core.Logic.{⊎-elim}
 use mathlib.Core.Path.{_≡_, refl, sym, ap, _∙_}
-use borrow.Author.Tests.{eq-eqb, ne-eqb, le-leb, lt-leb, ltb-true, ltb-false}
+use borrow.Author.Tests.{eq-eqb, ne-eqb, le-leb, lt-leb}
 use native.Mathlib.Omega.{arith}
-use lib.Dec.{eqb, leb, ltb}
-use lib.ListN.{length, getD, take, drop, length-append, length-drop, drop-of-length-le, List·getD-eq-default}
+use lib.Dec.{eqb, leb}
+use lib.ListN.{length, getD, take, drop, length-append, length-drop}
 use lib.Seq.{drop-drop}
 use Rattle.text.specs.Words.{if_then_else_, case, str, starts, starts-with, is-empty, take-while, drop-while}
 use Rattle.text.specs.Chars.{within, is-digit, is-space, Ascii}
 use Rattle.text.specs.Utf8.{encode, size, chars}
 use Rattle.text.specs.Trim.{trim, start-of}
-use Rattle.text.proofs.Tests.{decide, or-elim, and-false, within-is, within-below, within-above, starts-room}
+use Rattle.text.proofs.Tests.{or-elim, and-false, within-is, within-below, within-above, starts-room}
 use Rattle.text.proofs.Laws.{chars-nil, encode-chars, encode-append, size-encode}
 use Rattle.text.proofs.AsciiLaws.{starts-chars, digit-high, drop-chars}
 use Rattle.text.proofs.TrimLaws.{drop-start, chars-start, start-le}
@@ -23,6 +22,7 @@ use Rattle.text.proofs.RunLaws.{run-take, run-all, run-le, run-split}
 use Rattle.text.proofs.Lists.{drop-next}
 use Rattle.records.specs.Blocks.{Heading, Paragraph, Item}
 use Rattle.spans.specs.Spans.{spans}
+use Rattle.spans.proofs.Marks.{starts-byte}
 use Rattle.markdown.specs.Blocks.{is-rule, marked, marker-at, list-marker, row, Reader, reader, flush, added, heading, paragraph, continuation, read-text, read-line}
 use Rattle.text.specs.Part.{between}
 use Rattle.markdown.specs.Parts.{Inside}
@@ -71,14 +71,7 @@ module _ (t : List ℕ) (level : ℕ) (e : level ≡ length (take-while (λ (x :
         }
 
 -- ---- list markers
--- a byte and a space stand at an offset
-space-at : (line : List ℕ) (j : ℕ) → starts-with (32 ∷ []) (drop j line) ≡ eqb (getD line j 0) 32
-space-at line j =
-    ⊎-elim
-    (λ l. rw (drop-next line j (ltb-true j (length line) l)) (and-true-right (eqb (getD line j 0) 32)))
-    (λ l. let h = ltb-false j (length line) l in rw (drop-of-length-le line h, List·getD-eq-default line 0 h))
-    (decide (ltb j (length line)))
-
+-- a bullet is one of three bytes with a space after it
 spread : (x y z w : Bool) → ((x || y) || z) && w ≡ ((x && w) || (y && w)) || (z && w)
 spread true y z true = refl
 spread true true true false = refl
@@ -94,7 +87,7 @@ spread false false false w = refl
 pub bullet-at : (line : List ℕ) (i : ℕ) → i < length line
     → ((eqb (getD line i 0) 45 || eqb (getD line i 0) 42) || eqb (getD line i 0) 43) && eqb (getD line (i + 1) 0) 32
     ≡ starts "- " (drop i line) || starts "* " (drop i line) || starts "+ " (drop i line)
-bullet-at line i l = rw (drop-next line i l, space-at line (i + 1)) (spread (eqb (getD line i 0) 45) (eqb (getD line i 0) 42) (eqb (getD line i 0) 43) (eqb (getD line (i + 1) 0) 32))
+bullet-at line i l = rw (drop-next line i l, starts-byte line (i + 1) 32 (omega arith)) (spread (eqb (getD line i 0) 45) (eqb (getD line i 0) 42) (eqb (getD line i 0) 43) (eqb (getD line (i + 1) 0) 32))
 
 module _ (line : List ℕ) (at : ℕ) (e : at ≡ start-of line) where
   marker-in : at ≤ length line

@@ -2,22 +2,18 @@
 -- Assumes nothing.
 use mathlib.Core.Path.{_≡_, refl, sym, ap, ap₂, _∙_, subst}
 use Prim.Native.Nat.{ℕ, zero, suc, _+_, _-_, _*_, _^_, _≤_, _<_}
-use native.Mathlib.Nat.{add-zero, sub-self}
+use native.Mathlib.Nat.{add-zero}
 use native.Mathlib.Omega.{arith}
 use native.Mathlib.Numerals.{add-one}
-use mathlib.Core.Bool.{Bool, true, false, _||_, false≢true}
+use mathlib.Core.Bool.{Bool, false, _||_}
 use mathlib.Core.List.{List, [], _∷_, _++_, map, reverse, append-assoc}
 use lib.ListN.{length, set, take, drop, getD, length-append, length-drop, length-map, drop-of-length-le}
 use lib.Seq.{sets, drop-cons, drop-drop, length-sets}
-use lib.Dec.{eqb}
-use borrow.Author.Tests.{eqb-true, eq-eqb}
-use Rattle.text.specs.Words.{all}
-use Rattle.text.proofs.Tests.{and-true}
-use Rattle.text.proofs.RunLaws.{block-next}
+use Rattle.text.proofs.Lists.{drop-next}
 use Rattle.records.specs.Blocks.{Span}
 use Rattle.spans.specs.Spans.{Walk, at, flush, step, carry, walk, spans}
 use Rattle.spans.specs.Turn.{Turn, linked, turned, records-of}
-use Rattle.spans.specs.State.{head, pend, push-of, plain, push-all-of, flush-of, link-by, link-to, link-head, Ready, walk-of, turn-at, state-after, Made}
+use Rattle.spans.specs.State.{head, pend, push-of, push-all-of, TextAt, PlainTo, flush-of, link-by, link-to, link-head, Ready, walk-of, turn-at, state-after, Made}
 use Rattle.spans.specs.declared.State.{State}
 use Rattle.spans.specs.declared.Written.{Written}
 use Rattle.spans.proofs.Search.{Linked}
@@ -25,7 +21,7 @@ use Rattle.spans.proofs.SpanLaws.{walk-end, walk-next, spans-eq}
 use Rattle.records.proofs.Stores.{sets-append}
 use Rattle.spans.proofs.Records.{rec-append, rec-carry, rec-count}
 use Rattle.spans.proofs.Bounds.{turn-within, turn-small, bytes-small}
-use Rattle.spans.proofs.Marks.{open-some, plain-turn}
+use Rattle.spans.proofs.Marks.{open-some, text-turn, plain-all}
 use Rattle.spans.proofs.Made.{same-state, made-as, push-made, map-of, flush-form, flush-length, gap-bytes, flush-bytes, flush-state}
 
 -- The spans that are done, with their records stored; the pending text, last byte first, stored behind its gap; and what is left to walk.
@@ -199,57 +195,32 @@ module _ (B I : Bool) (line out₀ : List ℕ) (at₀ : ℕ) (w : State) (out : 
 pub label-few : (l : List ℕ) → length (spans l) ≤ 6 * length l
 label-few l = omega (arith, rec-count false false (spans l), bytes-small false false l)
 
--- ---- bytes that are no marks
-
-plain-not : (x k : ℕ) → eqb x k ≡ true → plain k ≡ false → plain x ≡ true → ⊥
-plain-not x k e f p = false≢true (sym f ∙ ap plain (sym (eqb-true x k e)) ∙ p)
-
-module _ (x : ℕ) (p : plain x ≡ true) where
-  unlike : (k : ℕ) → plain k ≡ false → x ≡ k → ⊥
-  unlike k f e = plain-not x k (eq-eqb x k e) f p
+-- ---- bytes that are text
 
 module _ (B I : Bool) (line out₀ : List ℕ) (at₀ : ℕ) where
-  one-more : (w : State) (out : List ℕ) (W : Walking B I line out₀ at₀ w out) → w .i < length line → plain (getD line (w .i) 0) ≡ true
+  one-more : (w : State) (out : List ℕ) (W : Walking B I line out₀ at₀ w out) → w .i < length line → TextAt line (w .i)
       → Walking B I line out₀ at₀ (push-of w 1) (set out (w .at + 5 + w .len) (getD line (w .i) 0))
-  unfolding plain
   one-more w out W h p =
       keeps B I line out₀ at₀ w out W h (push-of w 1) _
-      (made-as (plain-turn line w (W .text) (getD line (w .i) 0) refl (unlike _ p 92 refl) (unlike _ p 96 refl) (unlike _ p 42 refl) (unlike _ p 91 refl) (unlike _ p 33 refl)) refl
-      (push-made B I w out (W .text) _ (getD line (w .i) 0) 0 1 refl (W .len) refl))
+      (made-as (text-turn line w (W .text) p) refl (push-made B I w out (W .text) _ (getD line (w .i) 0) 0 1 refl (W .len) refl))
 
-  pub all-pushed : (n : ℕ) (w : State) (out : List ℕ) → Walking B I line out₀ at₀ w out → w .i + n ≤ length line → all plain (take n (drop (w .i) line)) ≡ true
+  all-pushed : (n : ℕ) (w : State) (out : List ℕ) → Walking B I line out₀ at₀ w out → w .i + n ≤ length line → ((k : ℕ) → w .i ≤ k → k < w .i + n → TextAt line k)
       → Walking B I line out₀ at₀ (push-all-of w n) (sets out (w .at + 5 + w .len) (take n (drop (w .i) line)))
   all-pushed zero w out W l p = subst (λ (z : State). Walking B I line out₀ at₀ z out) (same-state (sym (add-zero (w .i))) refl (sym (add-zero (w .len))) refl refl refl) W
   all-pushed (suc n) w out W l p =
       let c : ℕ = getD line (w .i) 0 in
-      let cons : drop (w .i) line ≡ c ∷ drop (w .i + 1) line = drop-cons line (w .i) 0 (omega arith) ∙ ap (λ (k : ℕ). c ∷ drop k line) (sym (add-one (w .i))) in
-      let q = and-true (plain c) (all plain (take n (drop (w .i + 1) line))) (sym (ap (λ (z : List ℕ). all plain (take (suc n) z)) cons) ∙ p) in
-      let next = all-pushed n (push-of w 1) (set out (w .at + 5 + w .len) c) (one-more w out W (omega arith) (q .0)) (omega arith) (q .1) in
+      let cons : drop (w .i) line ≡ c ∷ drop (w .i + 1) line = drop-next line (w .i) (omega arith) in
+      let next = all-pushed n (push-of w 1) (set out (w .at + 5 + w .len) c) (one-more w out W (omega arith) (p (w .i) (omega arith) (omega arith))) (omega arith) (λ k a b. p k (omega arith) (omega arith)) in
       let bytes : sets (set out (w .at + 5 + w .len) c) (w .at + 5 + (w .len + 1)) (take n (drop (w .i + 1) line)) ≡ sets out (w .at + 5 + w .len) (take (suc n) (drop (w .i) line)) =
       ap (λ (k : ℕ). sets (set out (w .at + 5 + w .len) c) k (take n (drop (w .i + 1) line))) (omega arith) ∙ sym (ap (λ (z : List ℕ). sets out (w .at + 5 + w .len) (take (suc n) z)) cons) in
       subst (λ (z : State). Walking B I line out₀ at₀ z (sets out (w .at + 5 + w .len) (take (suc n) (drop (w .i) line)))) (same-state (omega arith) refl (omega arith) refl refl refl)
       (subst (Walking B I line out₀ at₀ (push-all-of (push-of w 1) n)) bytes next)
 
--- the loop that passes over them
-pub plain-none : (line : List ℕ) (i : ℕ) → all plain (take (i - i) (drop i line)) ≡ true
-plain-none line i = rw (sub-self i)
-
-pub plain-more : (line : List ℕ) (i j : ℕ) → i ≤ j → j < length line → all plain (take (j - i) (drop i line)) ≡ true → plain (getD line j 0) ≡ true
-    → all plain (take (j + 1 - i) (drop i line)) ≡ true
-plain-more line i j l h e p =
-    let k : j + 1 - i ≡ j - i + 1 = omega arith in
-    let q : i + (j - i) ≡ j = omega arith in
-    rw k (sym (block-next plain line i (j - i) true (omega arith) (sym e)) ∙ ap (λ (n : ℕ). plain (getD line n 0)) q ∙ p)
-
--- the first byte and the others
-pub whole-run : (line : List ℕ) (i e : ℕ) → i < length line → plain (getD line i 0) ≡ true → i + 1 ≤ e → all plain (take (e - (i + 1)) (drop (i + 1) line)) ≡ true
-    → all plain (take (e - i) (drop i line)) ≡ true
-whole-run line i e h p l q =
-    let k : e - i ≡ suc (e - (i + 1)) = omega arith in
-    rw (k, drop-cons line i 0 h, p, ← add-one i) q
-
-pub pushed-on : (B I : Bool) (line out₀ : List ℕ) (at₀ : ℕ) (w : State) (out : List ℕ) → Walking B I line out₀ at₀ w out → (n : ℕ) → w .i + n ≤ length line
-    → all plain (take n (drop (w .i) line)) ≡ true → {w′ : State} {out′ : List ℕ} → w′ ≡ push-all-of w n → out′ ≡ sets out (w .at + 5 + w .len) (take n (drop (w .i) line))
+pub pushed-on : (B I : Bool) (line out₀ : List ℕ) (at₀ : ℕ) (w : State) (out : List ℕ) → Walking B I line out₀ at₀ w out → (e : ℕ) → TextAt line (w .i) → PlainTo line (w .i + 1) e
+    → {w′ : State} {out′ : List ℕ} → w′ ≡ push-all-of w (e - w .i) → out′ ≡ sets out (w .at + 5 + w .len) (take (e - w .i) (drop (w .i) line))
     → Walking B I line out₀ at₀ w′ out′
-pushed-on B I line out₀ at₀ w out W n l p {w′} {out′} e f =
-    subst (λ (z : State). Walking B I line out₀ at₀ z out′) (sym e) (subst (Walking B I line out₀ at₀ (push-all-of w n)) (sym f) (all-pushed B I line out₀ at₀ n w out W l p))
+pushed-on B I line out₀ at₀ w out W e p v {w′} {out′} f g =
+    let l = v .low in
+    let h = v .high in
+    let q = all-pushed B I line out₀ at₀ (e - w .i) w out W (omega arith) (λ k a b. plain-all line (w .i) e p v k a (omega arith)) in
+    subst (λ (z : State). Walking B I line out₀ at₀ z out′) (sym f) (subst (Walking B I line out₀ at₀ (push-all-of w (e - w .i))) (sym g) q)

@@ -1,20 +1,32 @@
 -- The turn of the walk at each mark, by what stands after it.
 -- Assumes nothing.
-use mathlib.Core.Path.{_≡_, refl, sym, ap, _∙_}
+use mathlib.Core.Path.{_≡_, refl, sym, ap, _∙_, subst}
 use Prim.Native.Nat.{ℕ, _+_, _≤_, _<_}
 use native.Mathlib.Numerals.{add-one}
-use mathlib.Core.Bool.{Bool, true, false, not, _||_}
+use mathlib.Core.Bool.{Bool, true, false, not, _||_, and-true as and-true-right}
+use mathlib.Core.Logic.{⊎-elim}
+use native.Mathlib.Omega.{arith}
 use mathlib.Core.Option.{none, some}
 use mathlib.Core.List.{List, [], _∷_, _++_, map}
-use lib.ListN.{length, take, drop, getD, drop-of-length-le}
-use lib.Seq.{drop-cons}
-use lib.Dec.{eqb}
-use borrow.Author.Tests.{not-false, eq-eqb, ne-eqb, eqb-true}
-use Rattle.text.specs.Words.{index}
+use lib.ListN.{length, take, drop, getD, drop-of-length-le, List·getD-eq-default}
+use lib.Seq.{drop-cons, drop-drop}
+use lib.Dec.{eqb, ltb}
+use borrow.Author.Tests.{eq-eqb, ne-eqb, eqb-true, ltb-true, ltb-false}
+use Rattle.text.specs.Words.{index, starts-with}
+use Rattle.text.proofs.Tests.{decide, false-true, or-neither}
+use Rattle.text.proofs.Lists.{drop-next}
 use Rattle.spans.specs.Spans.{push, at, flush, link, Step, made, label, kept, code-step, star-step, link-step, image-step, step, carry, spans}
 use Rattle.spans.specs.Turn.{Turn, turn, linked, turned}
-use Rattle.spans.specs.State.{plain, code-span, walk-of, turn-at}
+use Rattle.spans.specs.State.{code-span, walk-of, turn-at, TextAt, BangAt, PlainIs, PlainTo}
 use Rattle.spans.specs.declared.State.{State}
+
+-- one byte stands at an offset
+pub starts-byte : (line : List ℕ) (j b : ℕ) → 0 < b → starts-with (b ∷ []) (drop j line) ≡ eqb (getD line j 0) b
+starts-byte line j b h =
+    ⊎-elim
+    (λ l. rw (drop-next line j (ltb-true j (length line) l)) (and-true-right (eqb (getD line j 0) b)))
+    (λ l. let m = ltb-false j (length line) l in rw (drop-of-length-le line m, List·getD-eq-default line 0 m, ne-eqb 0 b (omega arith)))
+    (decide (ltb j (length line)))
 
 -- ---- the turn of the walk at a byte that is known, by what stands after it
 
@@ -73,23 +85,17 @@ module _ (line : List ℕ) (w : State) (text : List ℕ) where
   tick-some k e h =
       at-step 96 (made (flush (walk-of w text) ++ (code-span w (take k (stood line w)) ∷ [])) (at (w .bold) (w .italic) []) (k + 1)) e (rw h)
 
-  pub bang-last : getD line (w .i) 0 ≡ 33 → length line ≤ w .i + 1 → turn-at line w text ≡ pushed w text 33 0
-  unfolding step turned
-  bang-last e h = at-step 33 (kept (walk-of w text) 33) e (rw (last h))
+  module _ (b : BangAt line (w .i)) where
+    bracketed : starts-with (91 ∷ []) (stood line w) ≡ true
+    bracketed = starts-byte line (w .i + 1) 91 (omega arith) ∙ eq-eqb (getD line (w .i + 1) 0) 91 (b .bracket)
 
-  pub bang-other : getD line (w .i) 0 ≡ 33 → w .i + 1 < length line → (getD line (w .i + 1) 0 ≡ 91 → ⊥) → turn-at line w text ≡ pushed w text 33 0
-  unfolding step turned
-  bang-other e h f = at-step 33 (kept (walk-of w text) 33) e (rw (ahead h, ne-eqb (getD line (w .i + 1) 0) 91 f))
+    pub bang-none : link (drop (w .i + 1 + 1) line) ≡ none → turn-at line w text ≡ pushed w text 33 0
+    unfolding step image-step turned
+    bang-none g = at-step 33 (kept (walk-of w text) 33) (b .bang) (rw (bracketed, drop-drop 1 (w .i + 1) line, g))
 
-  pub bang-none : getD line (w .i) 0 ≡ 33 → w .i + 1 < length line → getD line (w .i + 1) 0 ≡ 91 → link (drop (w .i + 1 + 1) line) ≡ none
-      → turn-at line w text ≡ pushed w text 33 0
-  unfolding step image-step turned
-  bang-none e h f g = at-step 33 (kept (walk-of w text) 33) e (rw (ahead h, eq-eqb (getD line (w .i + 1) 0) 91 f, g))
-
-  pub bang-some : (p : ℕ × ℕ) → getD line (w .i) 0 ≡ 33 → w .i + 1 < length line → getD line (w .i + 1) 0 ≡ 91 → link (drop (w .i + 1 + 1) line) ≡ some p
-      → turn-at line w text ≡ turn [] (walk-of w text) (p .1 + 2)
-  unfolding step image-step turned
-  bang-some p e h f g = at-step 33 (made [] (walk-of w text) (p .1 + 2)) e (rw (ahead h, eq-eqb (getD line (w .i + 1) 0) 91 f, g))
+    pub bang-some : (p : ℕ × ℕ) → link (drop (w .i + 1 + 1) line) ≡ some p → turn-at line w text ≡ turn [] (walk-of w text) (p .1 + 2)
+    unfolding step image-step turned
+    bang-some p g = at-step 33 (made [] (walk-of w text) (p .1 + 2)) (b .bang) (rw (bracketed, drop-drop 1 (w .i + 1) line, g))
 
   pub open-none : getD line (w .i) 0 ≡ 91 → link (stood line w) ≡ none → turn-at line w text ≡ pushed w text 91 0
   unfolding step link-step turned
@@ -100,17 +106,52 @@ module _ (line : List ℕ) (w : State) (text : List ℕ) where
   unfolding step link-step turned
   open-some p e g = at-step 91 (label (p .0) (p .1 + 1)) e (rw g)
 
-  pub plain-turn : (c : ℕ) → getD line (w .i) 0 ≡ c → (c ≡ 92 → ⊥) → (c ≡ 96 → ⊥) → (c ≡ 42 → ⊥) → (c ≡ 91 → ⊥) → (c ≡ 33 → ⊥)
-      → turn-at line w text ≡ pushed w text c 0
-  unfolding step turned
-  plain-turn c e f₁ f₂ f₃ f₄ f₅ =
-      at-step c (kept (walk-of w text) c) e (rw (ne-eqb c 92 f₁, ne-eqb c 96 f₂, ne-eqb c 42 f₃, ne-eqb c 91 f₄, ne-eqb c 33 f₅))
+  pub text-turn : TextAt line (w .i) → turn-at line w text ≡ pushed w text (getD line (w .i) 0) 0
+  unfolding turned
+  text-turn f = at-step (getD line (w .i) 0) (kept (walk-of w text) (getD line (w .i) 0)) refl (f (walk-of w text))
 
--- a mark that is no other is `!`
-pub last-mark : (c : ℕ) → plain c ≡ false → (c ≡ 92 → ⊥) → (c ≡ 96 → ⊥) → (c ≡ 42 → ⊥) → (c ≡ 91 → ⊥) → c ≡ 33
-unfolding plain
-last-mark c p f₁ f₂ f₃ f₄ = eqb-true c 33 (last (eqb c 33) (not-false _ (rw (ne-eqb c 92 f₁, ne-eqb c 96 f₂, ne-eqb c 42 f₃, ne-eqb c 91 f₄) at p)))
-  where
-    last : (t : Bool) → t || false ≡ true → t ≡ true
-    last true e = refl
-    last false e = e
+-- ---- whether a byte is text
+module _ (line : List ℕ) (i : ℕ) where
+  pub bang-plain : getD line i 0 ≡ 33 → PlainIs line i (not (eqb (getD line (i + 1) 0) 91))
+  unfolding step
+  bang-plain e = by (eqb (getD line (i + 1) 0) 91) refl
+    where
+      by : (t : Bool) → eqb (getD line (i + 1) 0) 91 ≡ t → PlainIs line i (not t)
+      by true q = λ _ _ _ _. record { bang = e; bracket = eqb-true _ _ q }
+      by false q = λ w. rw (e, starts-byte line (i + 1) 91 (omega arith), q)
+
+  abbrev c : ℕ
+  c = getD line i 0
+
+  pub other-plain : (c ≡ 33 → ⊥) → PlainIs line i (not (eqb c 92 || eqb c 96 || eqb c 42 || eqb c 91))
+  unfolding step
+  other-plain n = by (eqb c 92 || eqb c 96 || eqb c 42 || eqb c 91) refl
+    where
+      by : (t : Bool) → eqb c 92 || eqb c 96 || eqb c 42 || eqb c 91 ≡ t → PlainIs line i (not t)
+      by true q = λ f₁ f₂ f₃ f₄. false-true (rw (ne-eqb c 92 f₁, ne-eqb c 96 f₂, ne-eqb c 42 f₃, ne-eqb c 91 f₄) at q)
+      by false q =
+          let p₃ = or-neither (eqb c 92 || eqb c 96 || eqb c 42) (eqb c 91) q in
+          let p₂ = or-neither (eqb c 92 || eqb c 96) (eqb c 42) (p₃ .0) in
+          let p₁ = or-neither (eqb c 92) (eqb c 96) (p₂ .0) in
+          λ w. rw (p₁ .0, p₁ .1, p₂ .1, p₃ .1, ne-eqb c 33 n)
+
+-- ---- the loop that passes over text
+pub plain-start : (line : List ℕ) (i : ℕ) → i ≤ length line → PlainTo line i i
+plain-start line i h = record { low = omega arith; high = h; text = λ k a b. absurd (omega arith) }
+
+pub plain-next : (line : List ℕ) (i j : ℕ) → PlainTo line i j → j < length line → TextAt line j → PlainTo line i (j + 1)
+plain-next line i j v h t = record {
+  low = omega (arith, v .low);
+  high = omega arith;
+  text = λ k a b. ⊎-elim
+      (λ l. v .text k a (ltb-true k j l))
+      (λ l. let q : j ≡ k = omega (arith, ltb-false k j l) in subst (TextAt line) q t)
+      (decide (ltb k j));
+}
+
+-- the first byte and the others
+pub plain-all : (line : List ℕ) (i e : ℕ) → TextAt line i → PlainTo line (i + 1) e → (k : ℕ) → i ≤ k → k < e → TextAt line k
+plain-all line i e t v k a b = ⊎-elim
+    (λ l. v .text k (omega (arith, ltb-true i k l)) b)
+    (λ l. let q : i ≡ k = omega (arith, ltb-false i k l) in subst (TextAt line) q t)
+    (decide (ltb i k))

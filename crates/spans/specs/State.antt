@@ -2,18 +2,18 @@
 -- Assumes nothing.
 use mathlib.Core.Path.{_≡_}
 use Prim.Native.Nat.{ℕ, zero, suc, _+_, _-_, _*_, _^_, _<_, _≤_}
-use mathlib.Core.Bool.{Bool, true, not}
+use mathlib.Core.Bool.{Bool, true, false}
 use mathlib.Core.Option.{Option, none, some}
 use mathlib.Core.List.{List, [], _∷_, reverse}
 use lib.ListN.{length, drop, getD}
 use lib.Seq.{sets}
 use lib.Dec.{ltb}
-use Rattle.text.specs.Words.{if_then_else_, index, matches}
+use Rattle.text.specs.Words.{if_then_else_, index}
 use Rattle.text.specs.Find.{found}
 use Rattle.text.specs.declared.Found.{Found}
 use Rattle.records.specs.Blocks.{Span}
 use Rattle.records.specs.Format.{le32}
-use Rattle.spans.specs.Spans.{Walk, at, span, step, link, spans}
+use Rattle.spans.specs.Spans.{Walk, at, span, kept, step, link, spans}
 use Rattle.spans.specs.Turn.{Turn, turned, record-of, records-of}
 use Rattle.spans.specs.declared.Link.{Link}
 use Rattle.spans.specs.declared.Link.the-variants.{Ends, Nothing}
@@ -69,10 +69,7 @@ ended-at w i at count = record { i = i; at = at; len = 0; count = count; bold = 
 abbrev pub push-of : State → ℕ → State
 push-of w used = record { i = w .i + used; at = w .at; len = w .len + 1; count = w .count; bold = w .bold; italic = w .italic }
 
--- a byte that is no mark, and n bytes more of pending text
-unfoldable pub plain : ℕ → Bool
-plain x = not (matches "\\`*[!" x)
-
+-- n bytes more of pending text
 abbrev pub push-all-of : State → ℕ → State
 push-all-of w n = record { i = w .i + n; at = w .at; len = w .len + n; count = w .count; bold = w .bold; italic = w .italic }
 
@@ -138,3 +135,30 @@ pub record Made (b i : Bool) (w : State) (out text : List ℕ) (s : Turn) (w′ 
 -- the turn at the state's place was made, whatever the pending text is
 abbrev pub Does : Bool → Bool → List ℕ → State → List ℕ → State → List ℕ → Type 0
 Does b i line w out w′ out′ = (text : List ℕ) → w .len ≡ length text → Made b i w out text (turn-at line w text) w′ out′
+
+-- ---- bytes that are text
+
+-- the byte at i is kept as it stands
+abbrev pub TextAt : List ℕ → ℕ → Type 0
+TextAt line i = (w : Walk) → step w (getD line i 0) (drop (i + 1) line) ≡ kept w (getD line i 0)
+
+-- `!` with `[` after it
+pub record BangAt (line : List ℕ) (i : ℕ) : Type 0 where
+  pub bang : getD line i 0 ≡ 33
+  pub bracket : getD line (i + 1) 0 ≡ 91
+
+-- whether the byte at i is text; what is neither text nor a backslash, a backtick, a star or `[` is such a `!`
+abbrev pub PlainIs : List ℕ → ℕ → Bool → Type 0
+PlainIs line i true = TextAt line i
+PlainIs line i false = (getD line i 0 ≡ 92 → ⊥) → (getD line i 0 ≡ 96 → ⊥) → (getD line i 0 ≡ 42 → ⊥) → (getD line i 0 ≡ 91 → ⊥) → BangAt line i
+
+-- the bytes from i on below r are text
+pub record PlainTo (line : List ℕ) (i r : ℕ) : Type 0 where
+  pub low : i ≤ r
+  pub high : r ≤ length line
+  pub text : (k : ℕ) → i ≤ k → k < r → TextAt line k
+
+-- ---- the records of spans, stored from `at` on
+abbrev pub Wrote : List Span → Bool → Bool → ℕ → List ℕ → List ℕ → Written → Type 0
+Wrote ss b i at out out′ r =
+    (r .next ≡ at + length (records-of b i ss)) × ((r .count ≡ length ss) × (out′ ≡ sets out at (records-of b i ss)))

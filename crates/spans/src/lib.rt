@@ -5,12 +5,11 @@ ghost use mathlib.Core.Bool.{Bool, true, false, _||_};
 ghost use lib.ListN.{length, set, getD, take, drop};
 ghost use lib.Seq.{sets};
 ghost use lib.Dec.{eqb};
-ghost use Rattle.text.specs.Words.{all};
 ghost use Rattle.records.specs.Format.{span-map, encode-spans};
 ghost use Rattle.spans.specs.Spans.{spans};
 ghost use Rattle.spans.specs.Line.{line-spans};
-ghost use Rattle.spans.specs.Turn.{record-of, records-of};
-ghost use Rattle.spans.specs.State.{next-at, link-at, Known, resumed, head, moved-to, ended-at, push-of, flush-of, code-span, code-of, pend, link-to, link-head, Ready, Does, plain, push-all-of};
+ghost use Rattle.spans.specs.Turn.{record-of};
+ghost use Rattle.spans.specs.State.{next-at, link-at, Known, resumed, head, moved-to, ended-at, push-of, flush-of, code-span, code-of, pend, link-to, link-head, Ready, Does, BangAt, PlainIs, PlainTo, push-all-of, Wrote};
 use records::writer::put;
 use records::writer::put_bytes;
 use records::writer::put_head;
@@ -179,21 +178,26 @@ fn push(w: State, c: u8, used: usize, out: &mut [u8]) -> State
     }
 }
 
-// A byte that is no mark.
-fn is_plain(c: u8) -> bool
-    ensures { λ r. ⌜ r ≡ plain c ⌝ }
+// Whether the byte at i is text: no mark, or an exclamation mark without a bracket after it.
+fn is_plain(line: &[u8], i: usize) -> bool
+    requires { ⌜ i < length (now line) ⌝ }
+    ensures { λ r. ⌜ PlainIs (now (line .entry)) i r ⌝ }
 {
-    !((c == b'\\') | (c == b'`') | (c == b'*') | (c == b'[') | (c == b'!'))
+    let c = line[i];
+    if c == b'!' {
+        return byte(line, i + 1) != 91;
+    }
+    !((c == b'\\') | (c == b'`') | (c == b'*') | (c == b'['))
 }
 
-// Where the bytes from i on that are no marks end.
+// Where the bytes from i on that are text end.
 fn plain_end(line: &[u8], i: usize) -> usize
     requires { ⌜ i ≤ length (now line) ⌝ }
-    ensures { λ r. ⌜ (i ≤ r) × ((r ≤ length (now (line .entry))) × (all plain (take (r - i) (drop i (now (line .entry)))) ≡ true)) ⌝ }
+    ensures { λ r. ⌜ PlainTo (now (line .entry)) i r ⌝ }
 {
     let mut j = i;
     while j < line.len() {
-        if !is_plain(line[j]) {
+        if !is_plain(line, j) {
             return j;
         }
         j += 1;
@@ -308,18 +312,12 @@ fn star(line: &[u8], w: State, bold: bool, italic: bool, out: &mut [u8]) -> Stat
     moved(f, j + 1, !w.bold, w.italic)
 }
 
-// An exclamation mark: an image is dropped.
+// An exclamation mark before a bracket: an image is dropped.
 fn bang(line: &[u8], w: State, out: &mut [u8], seen: &mut [usize; 6]) -> State
-    requires { ⌜ Ready (now line) w × ((getD (now line) (w .i) 0 ≡ 33) × Known (now line) (now seen)) ⌝ }
+    requires { ⌜ Ready (now line) w × (BangAt (now line) (w .i) × Known (now line) (now seen)) ⌝ }
     ensures { λ r. ⌜ ((b i : Bool) → Does b i (now (line .entry)) w (now (out .entry)) r (now (out .exit))) × Known (now (line .entry)) (now (seen .exit)) ⌝ }
 {
     let j = w.i + 1;
-    if line.len() <= j {
-        return push(w, b'!', 1, out);
-    }
-    if line[j] != b'[' {
-        return push(w, b'!', 1, out);
-    }
     let Link::Ends(_, end) = find_link(line, j + 1, seen) else {
         return push(w, b'!', 1, out);
     };
@@ -335,7 +333,7 @@ fn turn(
     out: &mut [u8],
     seen: &mut [usize; 6],
 ) -> State
-    requires { ⌜ Ready (now line) w × ((plain (getD (now line) (w .i) 0) ≡ false) × ((getD (now line) (w .i) 0 ≡ 91 → ⊥) × Known (now line) (now seen))) ⌝ }
+    requires { ⌜ Ready (now line) w × (PlainIs (now line) (w .i) false × ((getD (now line) (w .i) 0 ≡ 91 → ⊥) × Known (now line) (now seen))) ⌝ }
     ensures { λ r. ⌜ Does bold italic (now (line .entry)) w (now (out .entry)) r (now (out .exit)) × Known (now (line .entry)) (now (seen .exit)) ⌝ }
 {
     let i = w.i;
@@ -370,9 +368,7 @@ fn join_label(
 // Writes the records of the spans of a line from `at` on, as far as there is room; the emphasis `bold` and `italic` stands around them.
 fn spans_in(line: &[u8], bold: bool, italic: bool, out: &mut [u8], at: usize) -> Written
     requires { ⌜ at + 6 * length (now line) < 2 ^ 62 ⌝ }
-    ensures { λ r. ⌜ (r .next ≡ at + length (records-of bold italic (spans (now (line .entry)))))
-        × ((r .count ≡ length (spans (now (line .entry))))
-        × (now (out .exit) ≡ sets (now (out .entry)) at (records-of bold italic (spans (now (line .entry)))))) ⌝ }
+    ensures { λ r. ⌜ Wrote (spans (now (line .entry))) bold italic at (now (out .entry)) (now (out .exit)) r ⌝ }
 {
     let mut w = State {
         i: 0,
@@ -385,12 +381,11 @@ fn spans_in(line: &[u8], bold: bool, italic: bool, out: &mut [u8], at: usize) ->
     let mut seen = [0usize; 6];
     while w.i < line.len() {
         let i = w.i;
-        let c = line[i];
-        if is_plain(c) {
+        if is_plain(line, i) {
             w = push_all(line, w, plain_end(line, i + 1), out);
             continue;
         }
-        if c != b'[' {
+        if line[i] != b'[' {
             w = turn(line, w, bold, italic, out, &mut seen);
             continue;
         }

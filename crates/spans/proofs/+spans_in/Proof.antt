@@ -12,7 +12,7 @@ use Rattle.spans.specs.declared.State.{State}
 use Rattle.spans.proofs.Search.{known-none, link-found, unlinked}
 use Rattle.spans.proofs.Marks.{open-none}
 use Rattle.spans.proofs.Made.{made-as, push-made}
-use Rattle.spans.proofs.Loop.{Walking, start, ready, finish, label-made, label-few, pend-small, bounds, same-long, advanced, whole-run, pushed-on}
+use Rattle.spans.proofs.Loop.{Walking, start, ready, finish, label-made, label-few, pend-small, bounds, same-long, advanced, pushed-on}
 use Rattle.spans.proofs.spans_in.Reads as spans-in
 use Rattle.spans.proofs.spans_in.Kinds as kinds
 use Rattle.spans.proofs.+spans_in.Lts-spans_in as lts
@@ -51,44 +51,43 @@ abbrev μ-loop : lts.MeasureT-loop
 loop-holds : (t : ℕ) → lts.Need-loop-holds (told t) (spans-in-at t) spans-in.Post Inv-loop μ-loop
 loop-holds t c = (start (c .before .before .args .bold) (c .before .before .args .italic) (c .before .before .args .line .now) (c .before .before .args .out .now) (c .before .before .args .at), known-none (c .before .before .args .line .now))
 
-shared-slice-read-c : (t : ℕ) → lts.Need-shared-slice-read-c (told t) (spans-in-at t) spans-in.Post Inv-loop μ-loop
-shared-slice-read-c t c = c .before .if1 .taken
-
 is-plain-requires : (t : ℕ) → lts.Need-is-plain-requires (told t) (spans-in-at t) spans-in.Post Inv-loop μ-loop
 is-plain-requires t c κs = search needs
 
 add-plain-end : (t : ℕ) → lts.Need-add-plain-end (told t) (spans-in-at t) spans-in.Post Inv-loop μ-loop
-add-plain-end t c = omega (arith, c .before .before .before .if1 .taken, c .before .before .before .before .before .before .before .before .pre .1)
+add-plain-end t c = omega (arith, c .before .before .if1 .taken, c .before .before .before .before .before .before .before .pre .1)
 
 plain-end-requires : (t : ℕ) → lts.Need-plain-end-requires (told t) (spans-in-at t) spans-in.Post Inv-loop μ-loop
-plain-end-requires t c κs = omega (arith, c .before .before .before .if1 .taken)
+plain-end-requires t c κs = omega (arith, c .before .before .if1 .taken)
 
 push-all-requires : (t : ℕ) → lts.Need-push-all-requires (told t) (spans-in-at t) spans-in.Post Inv-loop μ-loop
 push-all-requires t c κs =
-    let a = c .before .before .before .before .before .before .before .before .before .before .args in
-    let l = c .before .before .before .before .before .before .before .loop in
-    let b = bounds (a .bold) (a .italic) (a .line .now) (a .out .now) (a .at) (l .w) (l .out) (l .inv .0) (c .before .before .before .before .before .before .before .before .before .before .pre .1) in
-    (b .0, (omega (arith, c .before .plain-end .ensures .0), (c .before .plain-end .ensures .1 .0, omega (arith, c .before .before .before .before .before .before .before .before .before .before .pre .1))))
+    let a = c .before .before .before .before .before .before .before .before .before .args in
+    let l = c .before .before .before .before .before .before .loop in
+    let b = bounds (a .bold) (a .italic) (a .line .now) (a .out .now) (a .at) (l .w) (l .out) (l .inv .0) (c .before .before .before .before .before .before .before .before .before .pre .1) in
+    (b .0, (omega (arith, c .before .plain-end .ensures .low), (c .before .plain-end .ensures .high, omega (arith, c .before .before .before .before .before .before .before .before .before .pre .1))))
 
 loop-less : (t : ℕ) → lts.Need-loop-less (told t) (spans-in-at t) spans-in.Post Inv-loop μ-loop
 loop-less t c =
-    let a = c .before .before .before .before .before .before .before .before .before .before .before .before .before .args in
-    let l = c .before .before .before .before .before .before .before .before .before .before .loop in
-    omega (arith, c .before .before .before .before .before .before .before .before .if1 .taken, ap (λ (z : State). z .i) (c .before .before .push-all .ensures .0), c .before .before .before .before .plain-end .ensures .0, c .before .before .before .before .plain-end .ensures .1 .0)
+    let v = c .before .before .before .before .plain-end .ensures in
+    omega (arith, c .before .before .before .before .before .before .before .if1 .taken, ap (λ (z : State). z .i) (c .before .before .push-all .ensures .0), v .low, v .high)
 
 loop-again : (t : ℕ) → lts.Need-loop-again (told t) (spans-in-at t) spans-in.Post Inv-loop μ-loop
 loop-again t c =
-    let a = c .before .before .before .before .before .before .before .before .before .before .before .before .before .args in
-    let l = c .before .before .before .before .before .before .before .before .before .before .loop in
-    let e = c .before .before .before .before .plain-end .result in
-    let p = whole-run (a .line .now) (l .w .i) e (c .before .before .before .before .before .before .before .before .if1 .taken) (sym (c .before .before .before .before .before .before .is-plain .ensures) ∙ c .before .before .before .before .before .if2 .taken) (c .before .before .before .before .plain-end .ensures .0) (c .before .before .before .before .plain-end .ensures .1 .1) in
-    (pushed-on (a .bold) (a .italic) (a .line .now) (a .out .now) (a .at) (l .w) (l .out) (l .inv .0) (e - l .w .i) (omega (arith, c .before .before .before .before .plain-end .ensures .0, c .before .before .before .before .plain-end .ensures .1 .0)) p (c .before .before .push-all .ensures .0) (c .before .before .push-all .ensures .1), l .inv .1)
+    let a = c .before .before .before .before .before .before .before .before .before .before .before .before .args in
+    let l = c .before .before .before .before .before .before .before .before .before .loop in
+    let p = rw (c .before .before .before .before .before .if2 .taken) at (c .before .before .before .before .before .before .is-plain .ensures) in
+    (pushed-on (a .bold) (a .italic) (a .line .now) (a .out .now) (a .at) (l .w) (l .out) (l .inv .0) _ p (c .before .before .before .before .plain-end .ensures) (c .before .before .push-all .ensures .0) (c .before .before .push-all .ensures .1), l .inv .1)
+
+shared-slice-read-if3 : (t : ℕ) → lts.Need-shared-slice-read-if3 (told t) (spans-in-at t) spans-in.Post Inv-loop μ-loop
+shared-slice-read-if3 t c = c .before .before .before .if1 .taken
 
 turn-requires : (t : ℕ) → lts.Need-turn-requires (told t) (spans-in-at t) spans-in.Post Inv-loop μ-loop
 turn-requires t c κs =
     let a = c .before .before .before .before .before .before .before .before .before .before .before .args in
     let l = c .before .before .before .before .before .before .before .before .loop in
-    (ready (a .bold) (a .italic) (a .line .now) (a .out .now) (a .at) (l .w) (l .out) (l .inv .0) (c .before .before .before .before .before .before .before .before .before .before .before .pre .1) (c .before .before .before .before .before .before .if1 .taken), (sym (c .before .before .before .before .is-plain .ensures) ∙ c .before .before .before .if2 .left, (c .before .before .if3 .taken, l .inv .1)))
+    let p = rw (c .before .before .before .before .if2 .left) at (c .before .before .before .before .before .is-plain .ensures) in
+    (ready (a .bold) (a .italic) (a .line .now) (a .out .now) (a .at) (l .w) (l .out) (l .inv .0) (c .before .before .before .before .before .before .before .before .before .before .before .pre .1) (c .before .before .before .before .before .before .if1 .taken), (p, (c .before .before .if3 .taken, l .inv .1)))
 
 loop-less-2 : (t : ℕ) → lts.Need-loop-less-2 (told t) (spans-in-at t) spans-in.Post Inv-loop μ-loop
 loop-less-2 t c =
@@ -240,4 +239,4 @@ returns t c =
 pub +spans-in-spec : {M : Type 1} → statement M
 +spans-in-spec =
     close μ-spans-in (λ t. lts.spec (told t) (spans-in-at t) spans-in.Post Inv-loop μ-loop
-    (loop-holds t) (shared-slice-read-c t) (is-plain-requires t) (add-plain-end t) (plain-end-requires t) (push-all-requires t) (loop-less t) (loop-again t) (turn-requires t) (loop-less-2 t) (loop-again-2 t) (add-from t) (find-link-requires t) (enum-known-close t) (enum-told t) (push-requires t) (loop-less-3 t) (loop-again-3 t) (either-requires t) (either-requires-2 t) (sub-spans-in t) (part-spans-in-start t) (part-spans-in-end t) (text-end-requires t) (spans-in-requires t) (add-join-label t) (join-label-requires t) (loop-less-4 t) (loop-again-4 t) (flush-requires t) (same-length t) (returns t))
+    (loop-holds t) (is-plain-requires t) (add-plain-end t) (plain-end-requires t) (push-all-requires t) (loop-less t) (loop-again t) (shared-slice-read-if3 t) (turn-requires t) (loop-less-2 t) (loop-again-2 t) (add-from t) (find-link-requires t) (enum-known-close t) (enum-told t) (push-requires t) (loop-less-3 t) (loop-again-3 t) (either-requires t) (either-requires-2 t) (sub-spans-in t) (part-spans-in-start t) (part-spans-in-end t) (text-end-requires t) (spans-in-requires t) (add-join-label t) (join-label-requires t) (loop-less-4 t) (loop-again-4 t) (flush-requires t) (same-length t) (returns t))

@@ -1,6 +1,5 @@
 -- `turn` makes the turn at a mark but `[`.
 -- Assumes nothing.
-use Rattle.spans.proofs.Marks.{last-mark}
 use borrow.Author.Needs.{needs}
 use Rattle.spans.proofs.turn.Statement.{statement}
 use Rattle.spans.proofs.turn.Tie as tie
@@ -18,7 +17,7 @@ star-requires : tie.Need-star-requires
 star-requires c κs = (c .before .before .before .before .before .pre .0, c .before .match .keys3)
 
 bang-requires : tie.Need-bang-requires
-bang-requires c κs = (c .before .before .before .before .before .before .pre .0, (last-mark _ (c .before .before .before .before .before .before .pre .1 .0) (c .before .before .match .rest .0 .0 .1) (c .before .before .match .rest .0 .1) (c .before .before .match .rest .1) (c .before .before .before .before .before .before .pre .1 .1 .0), c .before .before .before .before .before .before .pre .1 .1 .1))
+bang-requires c κs = let p = c .before .before .before .before .before .before .pre in (p .0, (p .1 .0 (c .before .before .match .rest .0 .0 .1) (c .before .before .match .rest .0 .1) (c .before .before .match .rest .1) (p .1 .1 .0), p .1 .1 .1))
 
 same-length : tie.Need-same-length
 same-length c = search needs
