@@ -4,7 +4,7 @@ use Prim.Native.Nat.{ℕ, suc, _+_, _-_, _≤_, _<_, min}
 use native.Mathlib.Omega.{arith}
 use mathlib.Core.Path.{_≡_, refl, sym, _∙_, ap, subst}
 use mathlib.Core.Bool.{Bool, true, false}
-use mathlib.Core.Option.{Option, none, some}
+use mathlib.Core.Option.{none, some}
 use mathlib.Core.Logic.{⊎-elim}
 use mathlib.Core.List.{List, [], _∷_, _++_, append-nil, append-assoc, map}
 use borrow.Author.Tests.{lt-ltb, ltb-true, ltb-false}
@@ -19,11 +19,11 @@ use Rattle.text.proofs.Utf8.{utf8-1}
 use Rattle.sheet.specs.Reading.{_<|>_, strip}
 use Rattle.sheet.specs.Tree.{Run, Mark, Items, end, leaf, node, alone, with, Block, heading, para, list}
 use Rattle.sheet.specs.Grammar.{closes-h, is-list, IsList}
-use Rattle.sheet.specs.Reader.{Answer, line, read-list, digit, headed, read-heading, read-para, block}
+use Rattle.sheet.specs.Reader.{Answer, line, read-list, digit, enclosed, headed, read-heading, read-para, block}
 use Rattle.sheet.specs.Written.{Row, rows-from, rows, written-runs, written-row, joined}
 use Rattle.sheet.specs.Weight.{weight, alike, added}
-use Rattle.sheet.specs.Says.{from, Says}
-use Rattle.sheet.specs.Forms.{led-rows, list-form, block-form}
+use Rattle.sheet.specs.Says.{from, Says, low, ascii}
+use Rattle.sheet.specs.Forms.{led-rows, list-form, led, block-form}
 use Rattle.sheet.proofs.ReadingLaws.{alt-left, alt-right}
 use Rattle.sheet.proofs.Sound.{read-list-sound}
 use Rattle.sheet.specs.declared.count.Count.{Count}
@@ -31,45 +31,62 @@ use Rattle.sheet.specs.declared.count.Read.{Read}
 use Rattle.sheet.specs.declared.count.Read.the-variants.{At, No}
 use Rattle.sheet.proofs.AllChars.{all-append, all-hashes}
 use Rattle.sheet.proofs.PageRead.{length-hashes}
-use Rattle.sheet.proofs.TestTags.{low, ascii}
 use Rattle.sheet.proofs.TestCount.{low-marks, weight-append, weight-ascii}
 use Rattle.sheet.proofs.TestSays.{Got, answers, refuses}
 
--- ---- a heading
-module _ (n : ℕ) (s : List ℕ) where
-  pub headed-1 : strip (str ">") s ≡ none → headed n s ≡ none
-  unfolding headed
-  headed-1 e = rw e
+-- ---- a line between two tags
+module _ (p q s : List ℕ) where
+  pub enclosed-1 : strip p s ≡ none → enclosed p q s ≡ none
+  unfolding enclosed
+  enclosed-1 e = rw e
 
-  module _ (s₁ : List ℕ) (e : strip (str ">") s ≡ some s₁) where
-    pub headed-2 : line s₁ ≡ none → headed n s ≡ none
-    unfolding headed
-    headed-2 f = rw (e, f)
+  module _ (s₁ : List ℕ) (e : strip p s ≡ some s₁) where
+    pub enclosed-2 : line s₁ ≡ none → enclosed p q s ≡ none
+    unfolding enclosed
+    enclosed-2 f = rw (e, f)
 
     module _ (l : List Run) (s₂ : List ℕ) (f : line s₁ ≡ some (l, s₂)) where
-      headed-is : headed n s ≡ (strip (closes-h n) s₂ >>= λ r. some (heading n l, r))
-      unfolding headed
-      headed-is = rw (e, f)
+      pub enclosed-3 : strip q s₂ ≡ none → enclosed p q s ≡ none
+      unfolding enclosed
+      enclosed-3 g = rw (e, f, g)
 
-      pub headed-3 : strip (closes-h n) s₂ ≡ none → headed n s ≡ none
-      headed-3 g = headed-is ∙ ap (λ (o : Option (List ℕ)). _>>=_ {B = Block × List ℕ} o (λ r. some (heading n l, r))) g
+      pub enclosed-4 : {r : List ℕ} → strip q s₂ ≡ some r → enclosed p q s ≡ some (l, r)
+      unfolding enclosed
+      enclosed-4 g = rw (e, f, g)
 
-      pub headed-4 : {r : List ℕ} → strip (closes-h n) s₂ ≡ some r → headed n s ≡ some (heading n l, r)
-      headed-4 g = headed-is ∙ ap (λ (o : Option (List ℕ)). _>>=_ {B = Block × List ℕ} o (λ r. some (heading n l, r))) g
+led-weight : (n : ℕ) (l : List Run) → weight (led n l) ≡ added (alike n) (weight (written-runs l))
+led-weight n l =
+    weight-append (repeat n "#") (written-runs l)
+    ∙ ap (λ (w : Count). added w (weight (written-runs l))) (weight-ascii (repeat n "#") (all-hashes low low-marks n) ∙ ap alike (length-hashes n))
 
+pub led-count : (n : ℕ) (l : List Run) {a b c : Count} → a ≡ alike n → b ≡ weight (written-runs l) → c ≡ added a b → c ≡ weight (led n l)
+led-count n l e f g = g ∙ cc (e, f) ∙ sym (led-weight n l)
+
+-- what was read, seen as another thing whose written form counts the same
+says-as : {A B : Type 0} (f : A → List ℕ) (g : B → List ℕ) (b : A → B) → ((x : A) → weight (f x) ≡ weight (g (b x))) → (page : List ℕ) (at : ℕ) (o : Answer A) (r : Read)
+    → Says f page at o r → Says g page at (o >>= λ x. some (b (x .0), x .1)) r
+says-as f g b e page at none r h = h
+says-as f g b e page at (some x) r h = (h .0, h .1 ∙ ap (At (h .0)) (e (x .0)), h .2)
+
+-- ---- a heading
 pub close-ascii : (n : ℕ) → n ≤ 6 → ascii (60 ∷ 47 ∷ 104 ∷ (48 + n) ∷ 62 ∷ []) ≡ true
 close-ascii n h = rw (lt-ltb (48 + n) 0x80 (omega arith))
 
-pub heading-weight : (n : ℕ) (l : List Run) {k : ℕ} {a b c : Count} → k ≡ min n 3 → a ≡ alike (k + 3) → b ≡ weight (written-runs l) → c ≡ added a b → c ≡ weight (block-form (heading n l))
+heading-weight : (n : ℕ) (l : List Run) → weight (led (min n 3 + 3) l) ≡ weight (block-form (heading n l))
 unfolding rows joined
-heading-weight n l {k} {a} {b} {c} e f g h =
+heading-weight n l =
     let p = str "\n\n" ++ (repeat (min n 3) "#" ++ str " ") in
     let q : weight p ≡ alike (min n 3 + 3) =
     weight-ascii p (all-append low (repeat (min n 3) "#") (str " ") (all-hashes low low-marks (min n 3)) refl)
     ∙ ap (λ (m : ℕ). alike (suc (suc m))) (length-append (repeat (min n 3) "#") (str " ") ∙ ap (λ (m : ℕ). m + 1) (length-hashes (min n 3)))
     ∙ ap alike (omega arith) in
-    h ∙ cc (f ∙ ap (λ (k : ℕ). alike (k + 3)) e ∙ sym q, g) ∙ sym (weight-append p (written-runs l))
+    led-weight (min n 3 + 3) l ∙ ap (λ (w : Count). added w (weight (written-runs l))) (sym q) ∙ sym (weight-append p (written-runs l))
     ∙ ap weight (ap (λ (m : List ℕ). str "\n\n" ++ m) (append-assoc (repeat (min n 3) "#") (str " ") (written-runs l)))
+
+pub headed-says : (n : ℕ) (page : List ℕ) (at : ℕ) {k : ℕ} → k ≡ min n 3 → (r : Read) → Says (led (k + 3)) page at (enclosed (str ">") (closes-h n) (from page at)) r → Says block-form page at (headed n (from page at)) r
+unfolding headed
+headed-says n page at e r h =
+    says-as (led (min n 3 + 3)) block-form (heading n) (heading-weight n) page at (enclosed (str ">") (closes-h n) (from page at)) r (rw e at h)
 
 -- ---- the digit of a heading
 module _ (page : List ℕ) (at : ℕ) (e : strip (str "<h") (from page at) ≡ some (from page (at + 2))) where
@@ -115,28 +132,13 @@ module _ (page : List ℕ) (at : ℕ) (e : strip (str "<h") (from page at) ≡ s
   heading-3 r s = subst (λ (o : Answer Block). Says block-form page at o r) (sym heading-is) (says-later block-form page at (at + 3) (headed n (from page (at + 3))) r (omega arith) s)
 
 -- ---- a paragraph
-module _ (s : List ℕ) where
-  pub para-1 : strip (str "<p>") s ≡ none → read-para s ≡ none
-  unfolding read-para
-  para-1 e = rw e
-
-  module _ (s₁ : List ℕ) (e : strip (str "<p>") s ≡ some s₁) where
-    pub para-2 : line s₁ ≡ none → read-para s ≡ none
-    unfolding read-para
-    para-2 f = rw (e, f)
-
-    module _ (l : List Run) (s₂ : List ℕ) (f : line s₁ ≡ some (l, s₂)) where
-      pub para-3 : strip (str "</p>") s₂ ≡ none → read-para s ≡ none
-      unfolding read-para
-      para-3 g = rw (e, f, g)
-
-      pub para-4 : {r : List ℕ} → strip (str "</p>") s₂ ≡ some r → read-para s ≡ some (para l, r)
-      unfolding read-para
-      para-4 g = rw (e, f, g)
-
-pub para-weight : (l : List Run) {a b c : Count} → a ≡ alike 2 → b ≡ weight (written-runs l) → c ≡ added a b → c ≡ weight (block-form (para l))
+para-weight : (l : List Run) → weight (led 2 l) ≡ weight (block-form (para l))
 unfolding rows joined
-para-weight l e f g = g ∙ cc (e ∙ sym (weight-ascii (str "\n\n") refl), f) ∙ sym (weight-append (str "\n\n") (written-runs l))
+para-weight l = led-weight 2 l ∙ ap (λ (w : Count). added w (weight (written-runs l))) (sym (weight-ascii (str "\n\n") refl)) ∙ sym (weight-append (str "\n\n") (written-runs l))
+
+pub para-says : (page : List ℕ) (at : ℕ) (r : Read) → Says (led 2) page at (enclosed (str "<p>") (str "</p>") (from page at)) r → Says block-form page at (read-para (from page at)) r
+unfolding read-para
+para-says page at r h = says-as (led 2) block-form para para-weight page at (enclosed (str "<p>") (str "</p>") (from page at)) r h
 
 -- ---- a list as a block
 led-joined : (r : Row) (rs : List Row) → led-rows (r ∷ rs) ≡ str "\n" ++ joined (str "\n") (map written-row (r ∷ rs))

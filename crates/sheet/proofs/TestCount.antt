@@ -13,10 +13,10 @@ use Rattle.text.specs.Chars.{is-digit}
 use Rattle.text.proofs.Tests.{and-true, within-true}
 use Rattle.text.proofs.Laws.{size-append}
 use Rattle.text.proofs.Utf8.{utf8-1}
+use Rattle.sheet.specs.Says.{low, ascii}
 use Rattle.sheet.specs.declared.count.Count.{Count}
 use Rattle.sheet.specs.Weight.{weight, alike, added}
 use Rattle.sheet.proofs.AllChars.{Marks}
-use Rattle.sheet.proofs.TestTags.{low, ascii}
 
 -- what is written besides texts is ASCII
 low-digit : (c : ℕ) → is-digit c ≡ true → low c ≡ true

@@ -8,12 +8,12 @@ use lib.ListN.{length, length-append}
 use Rattle.text.specs.Words.{str, repeat}
 use Rattle.text.specs.Decimal.{decimal}
 use Rattle.text.proofs.DecimalLaws.{decimal-small, decimal-large}
+use Rattle.sheet.specs.Says.{low}
 use Rattle.sheet.specs.Tree.{Run, Mark, Items, Item, alone, with, items}
 use Rattle.sheet.specs.Written.{Row, item, place, rows-from, lead, written-runs, written-row}
 use Rattle.sheet.specs.Weight.{weight, alike, added}
 use Rattle.sheet.specs.Forms.{led-rows, item-form, list-form, row-lead}
 use Rattle.sheet.specs.declared.count.Count.{Count}
-use Rattle.sheet.proofs.TestTags.{low}
 use Rattle.sheet.proofs.TestCount.{low-marks, counts, weight-append, weight-ascii}
 use Rattle.sheet.proofs.AllChars.{all-append, all-blanks, all-lead}
 

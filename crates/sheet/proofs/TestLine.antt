@@ -18,7 +18,7 @@ use Rattle.sheet.specs.Grammar.{touch, apart, first-letter, last-no-blan
 use Rattle.sheet.specs.Reader.{one-run, line}
 use Rattle.sheet.specs.Written.{escaped, sign, written-run, written-runs}
 use Rattle.sheet.specs.Weight.{weight, alike, added}
-use Rattle.sheet.specs.Says.{from, Says}
+use Rattle.sheet.specs.Says.{from, Says, low}
 use Rattle.sheet.specs.Keeps.{first-of, last-of, gist, coded, last-kind, runs-of, joined-by}
 use Rattle.sheet.specs.declared.count.Count.{Count}
 use Rattle.sheet.specs.declared.count.Read.the-variants.{At, No}
@@ -27,7 +27,6 @@ use Rattle.sheet.specs.declared.line.Kind.the-variants.{Strong}
 use Rattle.sheet.specs.declared.line.Gist.{Gist}
 use Rattle.sheet.specs.declared.line.Runs.{Runs}
 use Rattle.sheet.proofs.AllChars.{all-sign}
-use Rattle.sheet.proofs.TestTags.{low}
 use Rattle.sheet.proofs.TestCount.{low-marks, counts, size-ascii, weight-append}
 use Rattle.sheet.proofs.TestGist.{some-snoc}
 use Rattle.sheet.proofs.TestMany.{every, Read-to, to-none, to-more, to-stop}

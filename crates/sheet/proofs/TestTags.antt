@@ -11,19 +11,13 @@ use borrow.Author.Tests.{eqb-true, eq-eqb, ne-eqb, ltb-true, ltb-false}
 use lib.Dec.{eqb, ltb}
 use lib.ListN.{length, drop, length-drop}
 use lib.Seq.{drop-drop}
-use Rattle.text.specs.Words.{all, starts-with}
+use Rattle.text.specs.Words.{starts-with}
 use Rattle.text.specs.Utf8.{chars}
 use Rattle.text.proofs.Tests.{decide, and-true}
 use Rattle.text.proofs.Laws.{chars-nil, advance-end}
 use Rattle.text.proofs.AsciiLaws.{chars-ascii, chars-high}
 use Rattle.sheet.specs.Reading.{strip}
-use Rattle.sheet.specs.Says.{from, Tagged}
-
-abbrev pub low : ℕ → Bool
-low a = ltb a 0x80
-
-abbrev pub ascii : List ℕ → Bool
-ascii t = all low t
+use Rattle.sheet.specs.Says.{from, ascii, Tagged}
 
 -- what is left after the tag, or that it does not stand there
 abbrev After : List ℕ → List ℕ → Bool → Type 0
@@ -91,3 +85,7 @@ module _ (t page : List ℕ) (at : ℕ) (h : ascii t ≡ true) {r : Bool} (e : r
 
   pub missing : r ≡ false → strip t (from page at) ≡ none
   missing f = no-tag t page at (tagged t page at h e) f
+
+pub stands-fits : {t page : List ℕ} {at m : ℕ} → Stands t page at → at ≤ m → length page ≤ m → at + length t ≤ m
+stands-fits {t} s h l =
+    ⊎-elim (λ p. omega (arith, s .inside (ltb-true 0 (length t) p))) (λ p. omega (arith, ltb-false 0 (length t) p)) (decide (ltb 0 (length t)))

@@ -7,9 +7,9 @@ use mathlib.Core.Option.{none, some}
 use mathlib.Core.List.{List, [], _∷_, _++_}
 use lib.ListN.{length}
 use Rattle.text.specs.Words.{str, repeat}
-use Rattle.sheet.specs.Tree.{Mark, ul, ol, Items, Item, alone, with, Block}
+use Rattle.sheet.specs.Tree.{Run, Mark, ul, ol, Items, Item, alone, with, Block}
 use Rattle.sheet.specs.Reader.{Answer}
-use Rattle.sheet.specs.Written.{Row, item, rows-from, lead, written-row, written-block}
+use Rattle.sheet.specs.Written.{Row, item, rows-from, lead, written-runs, written-row, written-block}
 use Rattle.sheet.specs.Says.{from}
 use Rattle.sheet.specs.declared.list.Opening.{Opening}
 use Rattle.sheet.specs.declared.list.Opening.the-variants as O
@@ -26,6 +26,10 @@ item-form d n (with l m its) = led-rows (item d n l ∷ rows-from (suc d) m 1 it
 -- a list around whose own d lists are open
 unfoldable pub list-form : ℕ → Mark × Items → List ℕ
 list-form d x = led-rows (rows-from d (x .0) 1 (x .1))
+
+-- a line with n ASCII characters before it; which ones is nothing to its counts
+abbrev pub led : ℕ → List Run → List ℕ
+led n l = repeat n "#" ++ written-runs l
 
 abbrev pub block-form : Block → List ℕ
 block-form b = str "\n\n" ++ written-block b

@@ -100,13 +100,17 @@ abbrev pub digit : List ℕ → Answer ℕ
 digit [] = none
 digit (b ∷ s) = ensure (within 49 54 b) >>= λ _. some (b - 48, s)
 
+-- a line between two tags
+unfoldable pub enclosed : List ℕ → List ℕ → List ℕ → Answer (List Run)
+enclosed p q s =
+    strip p s >>= λ s₁.
+    line s₁ >>= λ x.
+    strip q (x .1) >>= λ r.
+    some (x .0, r)
+
 -- a heading after its digit
 unfoldable pub headed : ℕ → List ℕ → Answer Block
-headed n s =
-    strip (str ">") s >>= λ s₁.
-    line s₁ >>= λ x.
-    strip (closes-h n) (x .1) >>= λ r.
-    some (heading n (x .0), r)
+headed n s = enclosed (str ">") (closes-h n) s >>= λ x. some (heading n (x .0), x .1)
 
 unfoldable pub read-heading : List ℕ → Answer Block
 read-heading s =
@@ -115,11 +119,7 @@ read-heading s =
     headed (n .0) (n .1)
 
 unfoldable pub read-para : List ℕ → Answer Block
-read-para s =
-    strip (str "<p>") s >>= λ s₁.
-    line s₁ >>= λ x.
-    strip (str "</p>") (x .1) >>= λ r.
-    some (para (x .0), r)
+read-para s = enclosed (str "<p>") (str "</p>") s >>= λ x. some (para (x .0), x .1)
 
 unfoldable pub block : List ℕ → Answer Block
 block s =

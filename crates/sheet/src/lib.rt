@@ -1,9 +1,10 @@
 // The sheet test: document 01, "Sheet".
 ghost use mathlib.Core.Path.{_≡_};
+ghost use mathlib.Core.Bool.{true};
 ghost use Prim.Native.Nat.{_-_, _≤_, min};
-ghost use Rattle.sheet.specs.Reader.{headed, read-heading, read-para, block};
-ghost use Rattle.sheet.specs.Says.{from, Says};
-ghost use Rattle.sheet.specs.Forms.{block-form};
+ghost use Rattle.sheet.specs.Reader.{enclosed, headed, read-heading, read-para, block};
+ghost use Rattle.sheet.specs.Says.{from, ascii, Says};
+ghost use Rattle.sheet.specs.Forms.{led, block-form};
 ghost use Rattle.sheet.specs.Weight.{judged};
 ghost use Rattle.sheet.specs.Calls.{sheet-call, answer};
 
@@ -35,25 +36,33 @@ fn level(n: u8) -> usize
     if n < 3 { n as usize } else { 3 }
 }
 
+// A line between two tags, counted with the `lead` ASCII characters that its written form has before it.
+fn enclosed(page: &[u8], at: usize, start: &[u8], end: &[u8], lead: usize) -> Read
+    requires { ⌜ (ascii (now start) ≡ true) × (ascii (now end) ≡ true) ⌝ }
+    ensures { λ r. ⌜ Says (led lead) (now (page .entry)) at (enclosed (now (start .entry)) (now (end .entry)) (from (now (page .entry)) at)) r ⌝ }
+{
+    if !text::starts_with(page, at, start) {
+        return Read::No;
+    }
+    let Read::At { next, count } = line(page, at + start.len()) else {
+        return Read::No;
+    };
+    if !text::starts_with(page, next, end) {
+        return Read::No;
+    }
+    Read::At {
+        next: next + end.len(),
+        count: add(ascii(lead), count),
+    }
+}
+
 // A heading of number n after its digit.
 fn headed(page: &[u8], at: usize, n: u8) -> Read
     requires { ⌜ n ≤ 6 ⌝ }
     ensures { λ r. ⌜ Says block-form (now (page .entry)) at (headed n (from (now (page .entry)) at)) r ⌝ }
 {
-    if !text::starts_with(page, at, b">") {
-        return Read::No;
-    }
-    let Read::At { next, count } = line(page, at + 1) else {
-        return Read::No;
-    };
     let close = [60, 47, 104, 48 + n, 62];
-    if !text::starts_with(page, next, &close) {
-        return Read::No;
-    }
-    Read::At {
-        next: next + 5,
-        count: add(ascii(level(n) + 3), count),
-    }
+    enclosed(page, at, b">", &close, level(n) + 3)
 }
 
 fn heading(page: &[u8], at: usize) -> Read
@@ -72,19 +81,7 @@ fn heading(page: &[u8], at: usize) -> Read
 fn paragraph(page: &[u8], at: usize) -> Read
     ensures { λ r. ⌜ Says block-form (now (page .entry)) at (read-para (from (now (page .entry)) at)) r ⌝ }
 {
-    if !text::starts_with(page, at, b"<p>") {
-        return Read::No;
-    }
-    let Read::At { next, count } = line(page, at + 3) else {
-        return Read::No;
-    };
-    if !text::starts_with(page, next, b"</p>") {
-        return Read::No;
-    }
-    Read::At {
-        next: next + 4,
-        count: add(ascii(2), count),
-    }
+    enclosed(page, at, b"<p>", b"</p>", 2)
 }
 
 // A block at `at`.
