@@ -21,7 +21,7 @@ fn is_ascii_block(s: &[u8], i: usize) -> bool
 }
 
 // Where the blocks of 32 ASCII bytes from i on end.
-fn ascii_blocks(s: &[u8], i: usize) -> usize
+pub(crate) fn ascii_blocks(s: &[u8], i: usize) -> usize
     requires { ⌜ i ≤ length (now s) ⌝ }
     ensures { λ r. ⌜ RunTo is-ascii (now (s .entry)) i r ⌝ }
 {

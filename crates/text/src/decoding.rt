@@ -6,7 +6,7 @@ ghost use lib.ListN.{length, getD, drop};
 ghost use Rattle.text.specs.Words.{if_then_else_};
 ghost use Rattle.text.specs.Utf8.{tail, starts3, starts4, join, char-of, char, size-of, char-size, char-code, FourAt, code-at, is-utf8};
 use crate::Char;
-use crate::ascii::past_ascii;
+use crate::ascii::ascii_blocks;
 use crate::classes::within;
 use crate::encoding::width;
 
@@ -142,25 +142,23 @@ fn char_size(s: &[u8], i: usize) -> usize
     ensures { λ r. ⌜ r ≡ char-size (char (drop i (now (s .entry)))) ⌝ }
 {
     let left = s.len() - i;
-    if left < 2 {
-        return 0;
-    }
     let a = wide(s[i]);
-    let b = wide(s[i + 1]);
     if a < 0xE0 {
-        return size_of(a, b, 0, 0);
+        if left < 2 {
+            return 0;
+        }
+        return size_of(a, wide(s[i + 1]), 0, 0);
     }
-    if left < 3 {
-        return 0;
-    }
-    let c = wide(s[i + 2]);
     if a < 0xF0 {
-        return size_of(a, b, c, 0);
+        if left < 3 {
+            return 0;
+        }
+        return size_of(a, wide(s[i + 1]), wide(s[i + 2]), 0);
     }
     if left < 4 {
         return 0;
     }
-    size_of(a, b, c, wide(s[i + 3]))
+    size_of(a, wide(s[i + 1]), wide(s[i + 2]), wide(s[i + 3]))
 }
 
 // The code at i: a character, or 0x110000 and a byte that starts none; 0 at the end.
@@ -205,7 +203,10 @@ pub fn is_utf8(s: &[u8]) -> bool
     let mut i = 0;
     while i < s.len() {
         if s[i] < 0x80 {
-            i = past_ascii(s, i);
+            i += 1;
+            if i % 32 == 0 {
+                i = ascii_blocks(s, i);
+            }
             continue;
         }
         let n = char_size(s, i);
