@@ -1,13 +1,20 @@
 -- A character written into a buffer.
 -- Assumes nothing.
-use Prim.Native.Nat.{ℕ, _+_}
+use Prim.Native.Nat.{ℕ, _+_, _<_}
 use mathlib.Core.Bool.{Bool, _&&_}
-use mathlib.Core.List.{List}
+use mathlib.Core.List.{List, [], _∷_}
+use mathlib.Core.Path.{_≡_}
 use lib.Dec.{ltb, leb}
-use lib.ListN.{length}
+use lib.ListN.{length, take}
 use lib.Seq.{sets}
 use Rattle.text.specs.Words.{if_then_else_}
 use Rattle.text.specs.Utf8.{utf8}
+use Rattle.text.specs.declared.decoding.Four.{Four}
+
+-- the bytes of a character, and any after them
+pub record BytesOf (c : ℕ) (f : Four) : Type 0 where
+  pub bytes : utf8 c ≡ take (length (utf8 c)) (f .a ∷ f .b ∷ f .c ∷ f .d ∷ [])
+  pub small : (f .a < 256) × ((f .b < 256) × ((f .c < 256) × (f .d < 256)))
 
 -- whether n bytes have room for the character c from offset at on
 unfoldable pub room-for : ℕ → ℕ → ℕ → Bool

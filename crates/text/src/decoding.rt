@@ -107,12 +107,12 @@ fn code_or_stray(a: u32, b: u32, c: u32, d: u32) -> u32
     code_of(n, a, b, c, d)
 }
 
-// Four bytes, with 0 for each that stands past the end.
-struct Four {
-    a: u32,
-    b: u32,
-    c: u32,
-    d: u32,
+// Four bytes, with 0 for each that is not there.
+pub(crate) struct Four {
+    pub(crate) a: u32,
+    pub(crate) b: u32,
+    pub(crate) c: u32,
+    pub(crate) d: u32,
 }
 
 // The bytes from i on. Where there are four, none is tested for being there.

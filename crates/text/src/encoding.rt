@@ -1,10 +1,10 @@
 // Characters written as UTF-8.
-ghost use Prim.Native.Nat.{_+_, _<_, _≤_};
+ghost use Prim.Native.Nat.{_<_};
 ghost use mathlib.Core.Path.{_≡_};
 ghost use lib.ListN.{length};
-ghost use lib.Seq.{sets};
 ghost use Rattle.text.specs.Utf8.{utf8};
-ghost use Rattle.text.specs.Put.{put-size, put-at};
+ghost use Rattle.text.specs.Put.{BytesOf, put-size, put-at};
+use crate::decoding::Four;
 
 // How many bytes the character c has.
 pub fn width(c: u32) -> usize
@@ -25,51 +25,43 @@ pub fn width(c: u32) -> usize
     1
 }
 
-fn put2(out: &mut [u8], at: usize, c: u32)
-    requires { ⌜ (0x80 ≤ c) × ((c < 0x800) × (at + 2 ≤ length (now out))) ⌝ }
-    ensures { λ r. ⌜ now (out .exit) ≡ sets (now (out .entry)) at (utf8 c) ⌝ }
+// The bytes of the character c, and 0 for those that it does not have.
+fn bytes_of(c: u32) -> Four
+    requires { ⌜ c < 0x110000 ⌝ }
+    ensures { λ r. ⌜ BytesOf c r ⌝ }
 {
-    out[at] = (0xC0 + c / 64) as u8;
-    out[at + 1] = (0x80 + c % 64) as u8;
-}
-
-fn put3(out: &mut [u8], at: usize, c: u32)
-    requires { ⌜ (0x800 ≤ c) × ((c < 0x10000) × (at + 3 ≤ length (now out))) ⌝ }
-    ensures { λ r. ⌜ now (out .exit) ≡ sets (now (out .entry)) at (utf8 c) ⌝ }
-{
-    out[at] = (0xE0 + c / 4096) as u8;
-    out[at + 1] = (0x80 + c / 64 % 64) as u8;
-    out[at + 2] = (0x80 + c % 64) as u8;
-}
-
-fn put4(out: &mut [u8], at: usize, c: u32)
-    requires { ⌜ (0x10000 ≤ c) × ((c < 0x110000) × (at + 4 ≤ length (now out))) ⌝ }
-    ensures { λ r. ⌜ now (out .exit) ≡ sets (now (out .entry)) at (utf8 c) ⌝ }
-{
-    out[at] = (0xF0 + c / 262144) as u8;
-    out[at + 1] = (0x80 + c / 4096 % 64) as u8;
-    out[at + 2] = (0x80 + c / 64 % 64) as u8;
-    out[at + 3] = (0x80 + c % 64) as u8;
-}
-
-// Writes the character c at `at`, where it has room.
-fn store(out: &mut [u8], at: usize, c: u32)
-    requires { ⌜ (c < 0x110000) × (at + length (utf8 c) ≤ length (now out)) ⌝ }
-    ensures { λ r. ⌜ now (out .exit) ≡ sets (now (out .entry)) at (utf8 c) ⌝ }
-{
+    let last = 0x80 + c % 64;
     if c < 0x80 {
-        out[at] = c as u8;
-        return;
+        return Four {
+            a: c,
+            b: 0,
+            c: 0,
+            d: 0,
+        };
     }
     if c < 0x800 {
-        put2(out, at, c);
-        return;
+        return Four {
+            a: 0xC0 + c / 64,
+            b: last,
+            c: 0,
+            d: 0,
+        };
     }
+    let penult = 0x80 + c / 64 % 64;
     if c < 0x10000 {
-        put3(out, at, c);
-        return;
+        return Four {
+            a: 0xE0 + c / 4096,
+            b: penult,
+            c: last,
+            d: 0,
+        };
     }
-    put4(out, at, c);
+    Four {
+        a: 0xF0 + c / 262144,
+        b: 0x80 + c / 4096 % 64,
+        c: penult,
+        d: last,
+    }
 }
 
 // Writes the character c at `at`, and answers how many bytes that took: none where c is no character or has no room.
@@ -87,6 +79,19 @@ pub fn put(out: &mut [u8], at: usize, c: u32) -> usize
     if n - k < at {
         return 0;
     }
-    store(out, at, c);
+    let f = bytes_of(c);
+    out[at] = f.a as u8;
+    if k == 1 {
+        return k;
+    }
+    out[at + 1] = f.b as u8;
+    if k == 2 {
+        return k;
+    }
+    out[at + 2] = f.c as u8;
+    if k == 3 {
+        return k;
+    }
+    out[at + 3] = f.d as u8;
     k
 }
