@@ -1,13 +1,14 @@
 -- What C is given for each answer: document 01's number and values, 0 where there is none.
 -- Assumes nothing.
 use Prim.Native.Nat.{ℕ, _-_}
-use mathlib.Core.Bool.{Bool, true, false}
+use mathlib.Core.Bool.{Bool}
 use mathlib.Core.Option.{Option, none, some}
 use Rattle.text.specs.Outcome.{Outcome, number, returned}
 use Rattle.html.specs.declared.Answer as H
 use Rattle.html.specs.Answers.{answer-number, answer-length}
 use Rattle.markdown.specs.declared.Answer as MA
 use Rattle.markdown.specs.Answers as M
+use Rattle.records.specs.Format.{bit}
 use Rattle.walker.specs.Answers.{Answer, at-end, refused, gives, BlockValues, Emphasis}
 use Rattle.walker.specs.declared.Range.{Range}
 use Rattle.sheet.specs.Calls as S
@@ -50,14 +51,14 @@ block-struct at-end = block-of 0 0 0 0 0 0
 block-struct (refused n) = block-of n 0 0 0 0 0
 block-struct (gives v) = block-of 0 (kind (v .level) (v .depth)) (or-0 (v .level)) (or-0 (v .depth)) (v .count) (v .next)
 
-abbrev pub bit : Bool → ℕ
-bit true = 1
-bit false = 0
+-- 1 or 0
+abbrev pub flag : Bool → ℕ
+flag b = bit b 1
 
 abbrev pub span-struct : Answer Emphasis → SpanAt
 span-struct at-end = record { number = 0; kind = 0; bold = 0; italic = 0; code = 0 }
 span-struct (refused n) = record { number = n; kind = 0; bold = 0; italic = 0; code = 0 }
-span-struct (gives e) = record { number = 0; kind = 1; bold = bit (e .bold); italic = bit (e .italic); code = bit (e .code) }
+span-struct (gives e) = record { number = 0; kind = 1; bold = flag (e .bold); italic = flag (e .italic); code = flag (e .code) }
 
 abbrev pub first-struct : Answer ℕ → FirstAt
 first-struct at-end = record { number = 0; at = 0 }
@@ -68,7 +69,7 @@ abbrev pub here-struct : Answer (Emphasis × Range) → HereAt
 here-struct at-end = record { number = 0; bold = 0; italic = 0; code = 0; start = 0; length = 0 }
 here-struct (refused n) = record { number = n; bold = 0; italic = 0; code = 0; start = 0; length = 0 }
 here-struct (gives v) =
-    record { number = 0; bold = bit (v .0 .bold); italic = bit (v .0 .italic); code = bit (v .0 .code); start = v .1 .start; length = v .1 .end - v .1 .start }
+    record { number = 0; bold = flag (v .0 .bold); italic = flag (v .0 .italic); code = flag (v .0 .code); start = v .1 .start; length = v .1 .end - v .1 .start }
 
 -- a part by its length
 abbrev pub part-struct : Range → Part

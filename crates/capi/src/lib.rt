@@ -8,7 +8,7 @@ ghost use Rattle.html.specs.Calls.{html-to-markdown-call};
 ghost use Rattle.text.specs.Outcome.{result-after, work-kept};
 ghost use Rattle.markdown.specs.Calls.{blocks-call};
 ghost use Rattle.sheet.specs.Calls.{sheet-call};
-ghost use Rattle.capi.specs.Values.{bit, written-of, page-struct, markdown-struct, written-struct, block-of, block-struct, span-struct, first-struct, here-struct, part-struct, sheet-struct};
+ghost use Rattle.capi.specs.Values.{flag, written-of, page-struct, markdown-struct, written-struct, block-of, block-struct, span-struct, first-struct, here-struct, part-struct, sheet-struct};
 use sheet::Verdict;
 use walker::BlockAnswer;
 use walker::FirstAnswer;
@@ -156,7 +156,7 @@ pub extern "C" fn rn_block_at(records: &[u8], at: usize) -> BlockAt
 }
 
 fn flag(b: bool) -> u32
-    ensures { λ r. ⌜ r ≡ bit b ⌝ }
+    ensures { λ r. ⌜ r ≡ flag b ⌝ }
 {
     if b { 1 } else { 0 }
 }

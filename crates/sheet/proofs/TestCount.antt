@@ -2,17 +2,16 @@
 -- Assumes nothing.
 use Prim.Native.Nat.{ℕ}
 use native.Mathlib.Omega.{arith}
-use mathlib.Core.Path.{_≡_, refl, ap}
+use mathlib.Core.Path.{_≡_, refl}
 use mathlib.Core.Bool.{true}
-use mathlib.Core.List.{List, [], _∷_, _++_}
-use borrow.Author.Tests.{ltb-true, lt-ltb}
-use lib.Dec.{ltb}
+use mathlib.Core.List.{List, _++_}
+use borrow.Author.Tests.{lt-ltb}
 use lib.ListN.{length, length-append}
 use Rattle.text.specs.Utf8.{size}
-use Rattle.text.specs.Chars.{is-digit}
-use Rattle.text.proofs.Tests.{and-true, within-true}
+use Rattle.text.specs.Chars.{is-digit, is-ascii}
+use Rattle.text.proofs.Tests.{within-true}
 use Rattle.text.proofs.Laws.{size-append}
-use Rattle.text.proofs.Utf8.{utf8-1}
+use Rattle.text.proofs.AsciiLaws as A
 use Rattle.sheet.specs.Says.{low, ascii}
 use Rattle.sheet.specs.declared.count.Count.{Count}
 use Rattle.sheet.specs.Weight.{weight, alike, added}
@@ -34,13 +33,8 @@ unfolding weight
 weight-append l m = counts (omega (arith, size-append l m)) (omega (arith, length-append l m))
 
 pub size-ascii : (l : List ℕ) → ascii l ≡ true → size l ≡ length l
-unfolding size
-size-ascii [] h = refl
-size-ascii (a ∷ l) h =
-    let g = and-true (ltb a 0x80) (ascii l) h in
-    let i = size-ascii l (g .1) in
-    let e = ap length (utf8-1 a (ltb-true a 0x80 (g .0))) in
-    omega arith
+unfolding is-ascii
+size-ascii l h = A.size-ascii l (A.ascii-true l h)
 
 pub weight-ascii : (l : List ℕ) → ascii l ≡ true → weight l ≡ alike (length l)
 unfolding weight

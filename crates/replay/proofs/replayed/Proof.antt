@@ -4,11 +4,6 @@ use Prim.Native.Nat.{_≤_, _-_}
 use borrow.Author.Needs.{needs}
 use Rattle.replay.proofs.replayed.Statement.{statement}
 use Rattle.replay.proofs.replayed.Tie as tie
-use Rattle.replay.proofs.replayed.Reads as reads
-use Rattle.replay.proofs.replayed.Lts as lts
-use Rattle.replay.proofs.holds.Reads as holds-reads
-use Rattle.replay.proofs.more.Reads as more-reads
-use Rattle.replay.proofs.size.Reads as size-reads
 
 abbrev Inv-loop : tie.InvT-loop
 Inv-loop «data» letter at₀ run₀ differ₀ k₀ at run differ k = k ≤ 4096
