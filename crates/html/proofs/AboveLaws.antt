@@ -109,10 +109,10 @@ module _ (s : List ℕ) (i : ℕ) (l : i < length s) (h : Scalars (chars (drop i
 
   -- ---- the character that they make
   abbrev pub Made : ℕ → ℕ → Type 0
-  Made c n = Unescaped s i (piece c (i + n)) × (c ≡ code)
+  Made c n = Unescaped s i (piece c (i + n)) × ((c ≡ code) × (chars (drop i s) ≡ c ∷ chars (drop (i + n) s)))
 
   made : (c n : ℕ) → c ≡ code → length (utf8 code) ≡ n → Made c n
-  made c n q e = (piece-other s i l h c n (λ z. omega arith) q (sym e ∙ ap (λ (x : ℕ). length (utf8 x)) (sym q)), q)
+  made c n q e = let f = sym e ∙ ap (λ (x : ℕ). length (utf8 x)) (sym q) in (piece-other s i l h c n (λ z. omega arith) q f, (q, rw (f, q) (turn-is s i l .rest)))
 
   pub above-2 : getD s i 0 < 0xE0 → Made ((getD s i 0 - 0xC0) * 64 + (getD s (i + 1) 0 - 0x80)) 2
   above-2 g = go above

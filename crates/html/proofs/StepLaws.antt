@@ -18,7 +18,7 @@ use Rattle.text.specs.Decimal.{decimal}
 use Rattle.text.proofs.Tests.{on}
 use Rattle.html.specs.State.{State, with-out, with-lists, push-str, line-start, block, newline, spaced, marks, list-changed, item, tag, ul, ol, other, code, Tag}
 use Rattle.html.specs.Page.{listed, is-list}
-use Rattle.html.specs.Struct.{state-of, out-of, upto, lists-of, number, with-space, unspaced, list-tag, step-means}
+use Rattle.html.specs.Struct.{state-of, out-of, upto, lists-of, number, with-space, unspaced, list-tag, step-means, pending}
 use Rattle.html.specs.declared.Converter.{Converter}
 use Rattle.html.specs.declared.Step.{Step}
 use Rattle.html.specs.declared.Step.the-variants.{Heading, Block, Pre, Break, Item, Row, Cell, Strong, Emphasis, Code, Other}
@@ -289,9 +289,6 @@ unfolding tag
 item-tag a r l w w' e = ap (λ (x : List ℕ). item x (state-of r l w')) (newline-same a r l w w' e ∙ lists-is a l w _ refl) ∙ ap (item (state-of a l w .lists)) e
 
 -- ---- a pending space, written
-abbrev pub pending : Bool → ℕ
-pending b = if b then 1 else 0
-
 pub spaced-with : (s : State) (o : List ℕ) (sp : Bool) → spaced (with-out o sp s) ≡ with-out (with-space sp o) false s
 unfolding spaced
 spaced-with s o true = refl

@@ -4,22 +4,23 @@ use Prim.Native.Nat.{ℕ, _+_, _-_, _*_, _≤_, _<_}
 use native.Mathlib.Omega.{arith}
 use native.Mathlib.Numerals.{add-one}
 use mathlib.Core.Path.{_≡_, refl, sym, ap, _∙_, subst}
-use mathlib.Core.Bool.{Bool, true, false, not, _&&_, _||_}
+use mathlib.Core.Bool.{Bool, true, false, not, _&&_, _||_, or-false}
 use mathlib.Core.Logic.{inl, ⊎-elim}
 use mathlib.Core.Option.{Option, none, some}
 use mathlib.Core.List.{List, [], _∷_, _++_, reverseAux}
-use lib.Dec.{eqb}
-use lib.ListN.{length, getD, take, drop, drop-of-length-le}
-use lib.Seq.{take-suc, drop-cons}
-use borrow.Author.Tests.{eq-eqb, ne-eqb, eqb-true, ltb-true, lt-ltb, le-ltb, eqb-false, not-true}
+use lib.Dec.{eqb, ltb}
+use lib.ListN.{length, getD, take, drop}
+use lib.Seq.{take-suc}
+use borrow.Author.Tests.{eq-eqb, ne-eqb, eqb-true, ltb-true, lt-ltb, eqb-false, not-true, not-false}
 use Rattle.text.specs.Words.{if_then_else_, is, str, drop-while}
-use Rattle.text.specs.Chars.{within, is-ascii, is-space, is-alphanumeric}
+use Rattle.text.specs.Chars.{within, is-space}
+use Rattle.text.specs.Trim.{trim-start}
 use Rattle.text.specs.Utf8.{Scalars, utf8, size, chars, code-at}
-use Rattle.text.proofs.Tests.{decide, on, false-true, or-elim, and-true, and-false, within-true, within-above}
+use Rattle.text.proofs.Tests.{decide, on, false-true, or-elim, or-neither, and-true, and-false}
 use Rattle.text.proofs.Utf8.{utf8-1}
 use Rattle.text.proofs.AsciiLaws.{chars-ascii}
 use Rattle.text.proofs.Laws.{turn-is, utf8-size, advance-end, advance-ascii, scalars-drop}
-use Rattle.text.proofs.TrimLaws.{space-ascii}
+use Rattle.text.proofs.TrimLaws.{space-ascii, start-space, start-other}
 use Rattle.text.proofs.Lists.{same-last}
 use Rattle.reference.specs.Unescape.{reference, unescape}
 use Rattle.reference.specs.Answers.{answer}
@@ -27,12 +28,12 @@ use Rattle.reference.specs.declared.Ampersand.{Ampersand}
 use Rattle.reference.specs.declared.Ampersand.the-variants.{Replaced, Left}
 use Rattle.reference.proofs.Laws.{left-at, replaced-at, read-is, unescape-nil, unescape-other, unescape-size, at-and}
 use Rattle.html.specs.State.{State, with-out, line-start, special, opens, ends-with-digit, escape, put, spaced, blank, paused, next, put-all, text}
-use Rattle.html.specs.Struct.{out-of, with-space}
-use Rattle.html.specs.Pen.{pen-state, ascii-space, Unescaped}
+use Rattle.html.specs.Struct.{out-of, with-space, pending}
+use Rattle.html.specs.Pen.{pen-state, plain, Unescaped, Behind, Inking}
 use Rattle.html.specs.declared.words.Pen.{Pen}
 use Rattle.html.specs.declared.words.Piece.{Piece}
 use Rattle.html.proofs.OutLaws.{size-out}
-use Rattle.html.proofs.StepLaws.{spaced-lists, spaced-with, pending}
+use Rattle.html.proofs.StepLaws.{spaced-lists, spaced-with}
 
 -- ---- which characters are escaped
 pub escape-special : (first : Bool) (x : ℕ) (o : List ℕ) → special x ≡ true → true ≡ escape first x o
@@ -130,12 +131,6 @@ put-weight first x c = go (escape first x (c .out) && not (c .pre))
     go false = omega arith
 
 -- ---- the turn of the loop over a text
-pub record Inking (raw : List ℕ) (s t : State) (n : ℕ) (out : List ℕ) (p : Pen) (i : ℕ) : Type 0 where
-  pub same : put-all (p .first) (unescape 0 (chars (drop i raw))) (pen-state s p out) ≡ t
-  pub valid : Scalars (chars (drop i raw))
-  pub bound : i ≤ length raw
-  pub room : p .len + pending (p .space) + 2 * (length raw - i) ≤ n + 1 + 2 * length raw
-
 pen-weight : (s : State) (p : Pen) (w : List ℕ) → weight (pen-state s p w) ≡ p .len + pending (p .space)
 unfolding weight pen-state
 pen-weight s p w = rw (size-out (p .len) w)
@@ -144,11 +139,11 @@ pen-pre : (s : State) (p : Pen) (w : List ℕ) → pen-state s p w .pre ≡ s .p
 unfolding pen-state
 pen-pre s p w = refl
 
-module _ (raw : List ℕ) (s t : State) (n : ℕ) (out : List ℕ) (p : Pen) (i : ℕ) (k : Inking raw s t n out p i) (u : Piece) (v : Unescaped raw i u) where
+module _ (raw : List ℕ) (s t : State) (most : ℕ) (out : List ℕ) (p : Pen) (i : ℕ) (k : Inking raw s t most out p i) (u : Piece) (v : Unescaped raw i u) where
   pub some-size : 1 ≤ length (utf8 (u .code))
   some-size = utf8-size (u .code) .0
 
-  pub ink-room : p .len + 1 + length (utf8 (u .code)) ≤ n + 1 + 2 * length raw
+  pub ink-room : p .len + 1 + length (utf8 (u .code)) ≤ most
   ink-room = omega (arith, k .room, some-size, v .size, v .bound)
 
   step : (f : Bool) (c : State) → next (p .first) (u .code) (pen-state s p out) ≡ (f, c)
@@ -158,7 +153,7 @@ module _ (raw : List ℕ) (s t : State) (n : ℕ) (out : List ℕ) (p : Pen) (i 
       sym (ap (λ (l : List ℕ). put-all (p .first) l (pen-state s p out)) (v .is) ∙ ap (λ (n : Bool × State). put-all (n .0) (unescape 0 (chars (drop (u .next) raw))) (n .1)) e)
       ∙ k .same
 
-  pub ink-pause : (r : Pen) → blank (s .pre) (u .code) ≡ true → pen-state s r out ≡ paused (pen-state s p out) → r .first ≡ p .first → Inking raw s t n out r (u .next)
+  pub ink-pause : (r : Pen) → blank (s .pre) (u .code) ≡ true → pen-state s r out ≡ paused (pen-state s p out) → r .first ≡ p .first → Inking raw s t most out r (u .next)
   unfolding next blank paused pen-state
   ink-pause r b e f =
       let z : r .len ≡ p .len = sym (size-out (r .len) out) ∙ ap (λ (c : State). size (c .out)) e ∙ size-out (p .len) out in
@@ -170,7 +165,7 @@ module _ (raw : List ℕ) (s t : State) (n : ℕ) (out : List ℕ) (p : Pen) (i 
       }
 
   pub ink-write : (r : Pen) (out' : List ℕ) → blank (s .pre) (u .code) ≡ false → pen-state s r out' ≡ put (p .first) (u .code) (spaced (pen-state s p out)) → r .first ≡ false
-      → Inking raw s t n out' r (u .next)
+      → Inking raw s t most out' r (u .next)
   unfolding next blank
   ink-write r out' b e f =
       let w = ap weight e in
@@ -185,86 +180,67 @@ module _ (raw : List ℕ) (s t : State) (n : ℕ) (out : List ℕ) (p : Pen) (i 
         room = omega (arith, k .room, some-size, v .size, v .bound);
       }
 
--- ---- ASCII spaces after a space
+-- ---- spaces after a space
+start-nil : [] ≡ trim-start []
+unfolding drop-while
+start-nil = refl
+
 module _ (f : Bool) (c : State) (still : paused c ≡ c) (out : c .pre ≡ false) where
-  unfold-space : (b : ℕ) → ascii-space b ≡ true → (b < 0x80) × ((b ≡ 38 → ⊥) × (is-space b ≡ true))
-  unfolding ascii-space is-ascii is-space
-  unfold-space b e =
-      let p = and-true (is-ascii b) (is-space b) e in
-      (ltb-true b 0x80 (p .0), (λ z. false-true (sym (ap is-space z) ∙ p .1), p .1))
+  next-blank : (x : ℕ) → blank (c .pre) x ≡ true → next f x c ≡ (f, c)
+  unfolding next
+  next-blank x e = rw e (ap (λ (d : State). (f, d)) still)
 
-  next-blank : (b : ℕ) → blank (c .pre) b ≡ true → next f b c ≡ (f, c)
-  unfolding next blank paused
-  next-blank b e = rw e (ap (λ (d : State). (f, d)) still)
+  skip-one : (x : ℕ) (xs : List ℕ) → is-space x ≡ true → put-all f (unescape 0 (x ∷ xs)) c ≡ put-all f (unescape 0 xs) c
+  unfolding put-all is-space blank
+  skip-one x xs e =
+      ap (λ (l : List ℕ). put-all f l c) (unescape-other x xs (ne-eqb x 38 (λ z. false-true (sym (ap is-space z) ∙ e))))
+      ∙ ap (λ (n : Bool × State). put-all (n .0) (unescape 0 xs) (n .1)) (next-blank x (rw (out, e)))
 
-  skip-one : (b : ℕ) (bs : List ℕ) → ascii-space b ≡ true → put-all f (unescape 0 (chars (b ∷ bs))) c ≡ put-all f (unescape 0 (chars bs)) c
-  unfolding put-all blank
-  skip-one b bs e =
-      let k = unfold-space b e in
-      ap (λ (l : List ℕ). put-all f l c) (ap (unescape 0) (chars-ascii b bs (k .0)) ∙ unescape-other b (chars bs) (ne-eqb b 38 (k .1 .0)))
-      ∙ ap (λ (n : Bool × State). put-all (n .0) (unescape 0 (chars bs)) (n .1)) (next-blank b (rw (out, k .1 .1)))
+  pub skip-blanks : (xs : List ℕ) → put-all f (unescape 0 xs) c ≡ put-all f (unescape 0 (trim-start xs)) c
+  skip-blanks [] = ap (λ (l : List ℕ). put-all f (unescape 0 l) c) start-nil
+  skip-blanks (x ∷ xs) =
+      ⊎-elim
+      (λ e. skip-one x xs e ∙ skip-blanks xs ∙ ap (λ (l : List ℕ). put-all f (unescape 0 l) c) (sym (start-space x xs e)))
+      (λ e. ap (λ (l : List ℕ). put-all f (unescape 0 l) c) (sym (start-other x xs e)))
+      (decide (is-space x))
 
-  pub skip-blanks : (bs : List ℕ) → put-all f (unescape 0 (chars bs)) c ≡ put-all f (unescape 0 (chars (drop-while ascii-space bs))) c
-  unfolding drop-while
-  skip-blanks [] = refl
-  skip-blanks (b ∷ bs) =
-      ⊎-elim (λ e. skip-one b bs e ∙ skip-blanks bs ∙ rw e) (λ e. rw e) (decide (ascii-space b))
+start-scalars : (xs : List ℕ) → Scalars xs → Scalars (trim-start xs)
+start-scalars [] h = subst Scalars start-nil h
+start-scalars (x ∷ xs) h =
+    ⊎-elim (λ e. rw (start-space x xs e) (start-scalars xs (h .1))) (λ e. rw (start-other x xs e) h) (decide (is-space x))
 
 -- the loop that looks for their end
-pub blanks-stop : (s : List ℕ) (j : ℕ) → j < length s → ascii-space (getD s j 0) ≡ false → drop-while ascii-space (drop j s) ≡ drop j s
-unfolding drop-while
-blanks-stop s j l e = rw (drop-cons s j 0 l, e)
+pub start-none : {cs : List ℕ} → cs ≡ [] → cs ≡ trim-start cs
+start-none q = q ∙ start-nil ∙ ap trim-start (sym q)
 
-pub blanks-more : (s : List ℕ) (j : ℕ) → j < length s → ascii-space (getD s j 0) ≡ true
-    → drop-while ascii-space (drop j s) ≡ drop-while ascii-space (drop (j + 1) s)
-unfolding drop-while
-blanks-more s j l e = rw (drop-cons s j 0 l, e, add-one j)
+pub start-stop : {x : ℕ} {xs cs : List ℕ} → cs ≡ x ∷ xs → is-space x ≡ false → cs ≡ trim-start cs
+start-stop {x} {xs} q e = q ∙ sym (start-other x xs e) ∙ ap trim-start (sym q)
 
-pub high-no-space : (b : ℕ) → 0x80 ≤ b → ascii-space b ≡ false
-unfolding ascii-space is-ascii
-high-no-space b h = rw (le-ltb b 0x80 h)
-
-pub ascii-space-is : (b : ℕ) → b < 0x80 → ascii-space b ≡ is-space b
-unfolding ascii-space is-ascii
-ascii-space-is b h = rw (lt-ltb b 0x80 h)
-
-pub blanks-end : (s : List ℕ) (j : ℕ) → length s ≤ j → drop-while ascii-space (drop j s) ≡ drop j s
-unfolding drop-while
-blanks-end s j l = rw (drop-of-length-le s l)
-
-pub blanks-scalars : (bs : List ℕ) → Scalars (chars bs) → Scalars (chars (drop-while ascii-space bs))
-unfolding drop-while ascii-space is-ascii
-blanks-scalars [] h = h
-blanks-scalars (b ∷ bs) h =
-    ⊎-elim
-    (λ e.
-    let l = ltb-true b 0x80 (and-true (is-ascii b) (is-space b) e .0) in
-    rw e (blanks-scalars bs (subst Scalars (chars-ascii b bs l) h .1)))
-    (λ e. rw e h)
-    (decide (ascii-space b))
+pub start-more : {x : ℕ} {xs cs : List ℕ} → cs ≡ x ∷ xs → is-space x ≡ true → trim-start xs ≡ trim-start cs
+start-more {x} {xs} q e = sym (start-space x xs e) ∙ ap trim-start (sym q)
 
 pub blank-out : (pre : Bool) (x : ℕ) → blank pre x ≡ true → pre ≡ false
 unfolding blank
 blank-out true x e = sym e
 blank-out false x e = refl
 
-pub ink-blanks : (raw : List ℕ) (s t : State) (n : ℕ) (out : List ℕ) (p r : Pen) (i j : ℕ) → Inking raw s t n out r i → s .pre ≡ false → pen-state s r out ≡ paused (pen-state s p out)
-    → drop j raw ≡ drop-while ascii-space (drop i raw) → i ≤ j → j ≤ length raw → Inking raw s t n out r j
+pub ink-blanks : (raw : List ℕ) (s t : State) (most : ℕ) (out : List ℕ) (p r : Pen) (i j : ℕ) → Inking raw s t most out r i → s .pre ≡ false → pen-state s r out ≡ paused (pen-state s p out)
+    → chars (drop j raw) ≡ trim-start (chars (drop i raw)) → i ≤ j → j ≤ length raw → Inking raw s t most out r j
 unfolding paused pen-state
-ink-blanks raw s t n out p r i j k b e d l m =
+ink-blanks raw s t most out p r i j k b e d l m =
     record {
       same =
-          ap (λ (x : List ℕ). put-all (r .first) (unescape 0 (chars x)) (pen-state s r out)) d
-          ∙ sym (skip-blanks (r .first) (pen-state s r out) (ap paused e ∙ sym e) b (drop i raw))
+          ap (λ (x : List ℕ). put-all (r .first) (unescape 0 x) (pen-state s r out)) d
+          ∙ sym (skip-blanks (r .first) (pen-state s r out) (ap paused e ∙ sym e) b (chars (drop i raw)))
           ∙ k .same;
-      valid = rw d (blanks-scalars (drop i raw) (k .valid));
+      valid = rw d (start-scalars (chars (drop i raw)) (k .valid));
       bound = m;
       room = omega (arith, k .room);
     }
 
-pub ink-done : (raw : List ℕ) (s t : State) (n : ℕ) (out : List ℕ) (p : Pen) (i : ℕ) → Inking raw s t n out p i → length raw ≤ i → pen-state s p out ≡ t
+pub ink-done : (raw : List ℕ) (s t : State) (most : ℕ) (out : List ℕ) (p : Pen) (i : ℕ) → Inking raw s t most out p i → length raw ≤ i → pen-state s p out ≡ t
 unfolding put-all
-ink-done raw s t n out p i k h = sym (rw (advance-end raw i h, unescape-nil)) ∙ k .same
+ink-done raw s t most out p i k h = sym (rw (advance-end raw i h, unescape-nil)) ∙ k .same
 
 -- ---- the character at an offset
 is-left : (o : Option (ℕ × ℕ)) (r : Ampersand) → r ≡ answer o → r ≡ Left → o ≡ none
@@ -371,63 +347,88 @@ pub text-lists : (raw : List ℕ) (c : State) → text raw c .lists ≡ c .lists
 unfolding text
 text-lists raw c = put-all-lists true (unescape 0 raw) c
 
--- ---- letters and digits
-record Plain (b : ℕ) : Type 0 where
-  low : 48 ≤ b
-  high : b ≤ 122
-  not-62 : b ≡ 62 → ⊥
-  not-91 : b ≡ 91 → ⊥
-  not-92 : b ≡ 92 → ⊥
-  not-96 : b ≡ 96 → ⊥
+-- ---- behind a character that is written
+start-cons : (x : ℕ) (o : List ℕ) → (x ≡ 10 → ⊥) → line-start (x ∷ o) ≡ false
+unfolding line-start
+start-cons x o h = rw (ne-eqb x 10 h)
 
-plain-in : (l h b : ℕ) → within l h b ≡ true → ((l ≤ b) → (b ≤ h) → Plain b) → Plain b
-plain-in l h b e f = let p = within-true l h b e in f (p .0) (p .1)
+start-space-more : (sp : Bool) (o : List ℕ) → line-start o ≡ false → line-start (with-space sp o) ≡ false
+start-space-more true o e = start-cons 32 o (λ q. omega arith)
+start-space-more false o e = e
 
-plain-is : (b : ℕ) → is-alphanumeric b ≡ true → Plain b
-plain-is b =
-    or-elim (within 48 57 b) (within 65 90 b || within 97 122 b)
-    (λ e. plain-in 48 57 b e (λ l h. record { low = omega arith; high = omega arith; not-62 = λ q. omega arith; not-91 = λ q. omega arith; not-92 = λ q. omega arith; not-96 = λ q. omega arith }))
-    (or-elim (within 65 90 b) (within 97 122 b)
-    (λ e. plain-in 65 90 b e (λ l h. record { low = omega arith; high = omega arith; not-62 = λ q. omega arith; not-91 = λ q. omega arith; not-92 = λ q. omega arith; not-96 = λ q. omega arith }))
-    (λ e. plain-in 97 122 b e (λ l h. record { low = omega arith; high = omega arith; not-62 = λ q. omega arith; not-91 = λ q. omega arith; not-92 = λ q. omega arith; not-96 = λ q. omega arith })))
+put-start : (first : Bool) (x : ℕ) (c : State) → (x ≡ 10 → ⊥) → line-start (put first x c .out) ≡ false
+unfolding put
+put-start first x c h = go (escape first x (c .out) && not (c .pre))
+  where
+    go : (t : Bool) → line-start (reverseAux (if t then str "\\" ++ (x ∷ []) else x ∷ []) (c .out)) ≡ false
+    go true = start-cons x (92 ∷ c .out) h
+    go false = start-cons x (c .out) h
 
-module _ (b : ℕ) (h : is-alphanumeric b ≡ true) where
-  pub plain-not-and : b ≡ 38 → ⊥
-  plain-not-and q = let p = plain-is b h in omega (arith, p .low)
+pub behind-put : (pre : Bool) (x : ℕ) (first : Bool) (s d : State) (r : Pen) (out : List ℕ) → blank pre x ≡ false → pen-state s r out ≡ put first x d → r .first ≡ false → Behind pre r out
+unfolding pen-state blank is-space
+behind-put pre x first s d r out b e f = (
+  f,
+  λ q.
+      let n : is-space x ≡ false = rw q at b in
+      ap (λ (c : State). line-start (c .out)) e ∙ put-start first x d (λ z. false-true (sym n ∙ ap is-space z)),
+)
 
-  plain-not-space : is-space b ≡ false
-  plain-not-space =
-      let p = plain-is b h in
-      let l = p .low in
-      let u = p .high in
-      space-ascii b (omega arith) ∙ rw (within-above 9 13 b (omega arith) (omega arith), ne-eqb b 32 (omega arith))
+pub behind-pause : (pre : Bool) (s : State) (p r : Pen) (out : List ℕ) → Behind pre p out → pen-state s r out ≡ paused (pen-state s p out) → r .first ≡ p .first → Behind pre r out
+unfolding pen-state paused
+behind-pause pre s p r out k e f = (f ∙ k .0, λ q. ap (λ (c : State). line-start (c .out)) e ∙ k .1 q)
 
-  pub plain-not-blank : (pre : Bool) → blank pre b ≡ false
-  unfolding blank
-  plain-not-blank pre = and-false (not pre) (is-space b) plain-not-space
+-- ---- ASCII characters that are written as they are there
+module _ (b : ℕ) (pre : Bool) where
+  abbrev Other : Bool
+  Other = within 9 13 b || eqb b 32 || special b
 
-  plain-not-special : special b ≡ false
-  unfolding special
-  plain-not-special =
-      let p = plain-is b h in
-      let l = p .low in
-      let u = p .high in
-      simp (ne-eqb b 92 (p .not-92), ne-eqb b 42 (omega arith), ne-eqb b 96 (p .not-96), ne-eqb b 91 (p .not-91), ne-eqb b 33 (omega arith))
+  other-space : special b ≡ false → b < 0x80 → is-space b ≡ Other
+  other-space e a = space-ascii b a ∙ sym (rw e (or-false (within 9 13 b || eqb b 32)))
 
-  plain-not-opens : opens b ≡ false
-  unfolding opens
-  plain-not-opens =
-      let p = plain-is b h in
-      let l = p .low in
-      let u = p .high in
-      simp (ne-eqb b 35 (omega arith), ne-eqb b 45 (omega arith), ne-eqb b 43 (omega arith), ne-eqb b 62 (p .not-62), ne-eqb b 124 (omega arith))
+  module _ (h : plain pre b ≡ true) where
+    parts : (ltb b 0x80 && not (eqb b 38) ≡ true) × (pre || not Other ≡ true)
+    unfolding plain
+    parts = and-true (ltb b 0x80 && not (eqb b 38)) (pre || not Other) h
 
-  pub plain-write : (first : Bool) (s : State) (o : List ℕ) (sp : Bool) → with-out (b ∷ with-space sp o) false s ≡ put first b (spaced (with-out o sp s))
-  plain-write first s o sp =
-      let p = plain-is b h in
-      let l = p .low in
-      let e : escape first b (with-space sp o) ≡ false = sym (escape-other first b (with-space sp o) plain-not-special plain-not-opens (λ q. omega arith)) in
-      write-plain first b s o sp (rw e)
+    pub plain-ascii : b < 0x80
+    plain-ascii = ltb-true b 0x80 (and-true (ltb b 0x80) (not (eqb b 38)) (parts .0) .0)
+
+    pub plain-not-and : b ≡ 38 → ⊥
+    plain-not-and = eqb-false b 38 (not-true (eqb b 38) (and-true (ltb b 0x80) (not (eqb b 38)) (parts .0) .1))
+
+    plain-outside : pre ≡ false → (special b ≡ false) × (is-space b ≡ false)
+    plain-outside q =
+        let n = not-true Other (rw q at (parts .1)) in
+        let e = or-neither (within 9 13 b || eqb b 32) (special b) n .1 in
+        (e, other-space e plain-ascii ∙ n)
+
+    pub plain-not-blank : blank pre b ≡ false
+    unfolding blank
+    plain-not-blank = ⊎-elim (λ q. rw q) (λ q. and-false (not pre) (is-space b) (plain-outside q .1)) (decide pre)
+
+    pub plain-write : (s : State) → s .pre ≡ pre → (p : Pen) (out : List ℕ) → Behind pre p out
+        → with-out (b ∷ with-space (p .space) (out-of (p .len) out)) false s ≡ put (p .first) b (spaced (pen-state s p out))
+    unfolding pen-state escape
+    plain-write s q p out k =
+        let o = with-space (p .space) (out-of (p .len) out) in
+        write-plain (p .first) b s (out-of (p .len) out) (p .space)
+        (⊎-elim
+        (λ z. unescaped-pre (escape (p .first) b o) (s .pre) (q ∙ z))
+        (λ z. rw (plain-outside z .0, start-space-more (p .space) (out-of (p .len) out) (k .1 z), k .0))
+        (decide pre))
+
+  -- ---- and the others: a space, or one that is escaped
+  module _ (h : plain pre b ≡ false) (a : b < 0x80) (n : b ≡ 38 → ⊥) where
+    pub other-outside : (pre ≡ false) × (Other ≡ true)
+    unfolding plain
+    other-outside =
+        let e : pre || not Other ≡ false = rw (lt-ltb b 0x80 a, ne-eqb b 38 n) at h in
+        let p = or-neither pre (not Other) e in
+        (p .0, not-false Other (p .1))
+
+    pub other-blank : special b ≡ false → blank pre b ≡ true
+    unfolding blank
+    other-blank e = rw (other-outside .0, other-space e a, other-outside .1)
 
 -- ---- characters above ASCII
 module _ (c : ℕ) (h : 0x80 ≤ c) where
@@ -477,21 +478,3 @@ module _ (b : ℕ) (h : special b ≡ true) where
   pub special-write : (first : Bool) (s : State) (o : List ℕ) (sp : Bool) → s .pre ≡ false
       → with-out (b ∷ 92 ∷ with-space sp o) false s ≡ put first b (spaced (with-out o sp s))
   special-write first s o sp e = write-escaped first b s o sp (escaped-out _ true (s .pre) e (escape-special first b (with-space sp o) h))
-
--- ---- ASCII characters that are written as they are: letters and digits, and in `pre` all but `&`
-module _ (b : ℕ) (pre : Bool) (h : is-alphanumeric b || (pre && not (eqb b 38)) ≡ true) where
-  by : {X : Type 0} → (is-alphanumeric b ≡ true → X) → (pre ≡ true → (b ≡ 38 → ⊥) → X) → X
-  by f g = or-elim (is-alphanumeric b) (pre && not (eqb b 38)) f (λ e. let p = and-true pre (not (eqb b 38)) e in g (p .0) (eqb-false b 38 (not-true (eqb b 38) (p .1)))) h
-
-  pub bare-not-and : b ≡ 38 → ⊥
-  bare-not-and = by (plain-not-and b) (λ e n. n)
-
-  pub bare-not-blank : blank pre b ≡ false
-  unfolding blank
-  bare-not-blank = by (λ e. plain-not-blank b e pre) (λ e n. rw e)
-
-  pub bare-write : (s : State) → s .pre ≡ pre → (p : Pen) (out : List ℕ) → with-out (b ∷ with-space (p .space) (out-of (p .len) out)) false s ≡ put (p .first) b (spaced (pen-state s p out))
-  unfolding pen-state
-  bare-write s q p out =
-      by (λ e. plain-write b e (p .first) s (out-of (p .len) out) (p .space))
-      (λ e n. write-plain (p .first) b s (out-of (p .len) out) (p .space) (unescaped-pre (escape (p .first) b (with-space (p .space) (out-of (p .len) out))) (s .pre) (q ∙ e)))

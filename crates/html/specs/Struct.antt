@@ -61,6 +61,10 @@ unspaced c = with-out (drop-while (is " ") (c .out)) false c
 abbrev pub with-space : Bool → List ℕ → List ℕ
 with-space space o = if space then 32 ∷ o else o
 
+-- how many bytes it takes
+abbrev pub pending : Bool → ℕ
+pending space = if space then 1 else 0
+
 -- text that ends a pending space
 unfoldable pub ended : List ℕ → State → State
 ended s c = with-out (reverseAux s (c .out)) false c

@@ -8,18 +8,17 @@ use crate::output::put_char;
 use crate::output::spaced;
 use reference::Ampersand;
 ghost use mathlib.Core.Path.{_≡_};
-ghost use Prim.Native.Nat.{ℕ, _+_, _*_, _≤_, _<_};
+ghost use Prim.Native.Nat.{ℕ, _+_, _-_, _*_, _≤_, _<_};
 ghost use mathlib.Core.List.{List, _∷_};
 ghost use mathlib.Core.Bool.{true, false};
-ghost use Rattle.text.specs.Chars.{is-alphanumeric};
 ghost use lib.ListN.{length, getD, drop};
-ghost use Rattle.text.specs.Words.{drop-while};
+ghost use Rattle.text.specs.Trim.{trim-start};
 ghost use Rattle.text.specs.Utf8.{IsScalar, Scalars, utf8, chars, code-at};
 ghost use Rattle.html.specs.State.{State, with-out, special, opens, escape, blank, paused, put-all, text};
 ghost use Rattle.reference.specs.Unescape.{unescape};
 ghost use Rattle.html.specs.State as state;
-ghost use Rattle.html.specs.Struct.{state-of, out-of, with-space};
-ghost use Rattle.html.specs.Pen.{pen-state, ascii-space, AboveAscii, Unescaped};
+ghost use Rattle.html.specs.Struct.{state-of, out-of, with-space, pending};
+ghost use Rattle.html.specs.Pen.{pen-state, plain, AboveAscii, Unescaped, Behind, Inking};
 
 // Where text is written: the output's length, a pending space, and whether nothing of this text has been written yet.
 pub struct Pen {
@@ -37,7 +36,7 @@ pub struct Piece {
 // The character above ASCII at i. The text is UTF-8, so the first byte says how many there are.
 fn above_ascii(raw: &[u8], i: usize) -> Piece
     requires { ⌜ AboveAscii (now raw) i ⌝ }
-    ensures { λ r. ⌜ Unescaped (now (raw .entry)) i r × (r .code ≡ code-at (now (raw .entry)) i) ⌝ }
+    ensures { λ r. ⌜ Unescaped (now (raw .entry)) i r × ((r .code ≡ code-at (now (raw .entry)) i) × (chars (drop i (now (raw .entry))) ≡ r .code ∷ chars (drop (r .next) (now (raw .entry))))) ⌝ }
 {
     let a = raw[i] as u32;
     let b = raw[i + 1] as u32 - 0x80;
@@ -61,9 +60,9 @@ fn above_ascii(raw: &[u8], i: usize) -> Piece
     }
 }
 
-// The ASCII character at i, a reference replaced.
+// The character at i, a reference replaced.
 fn unescaped(raw: &[u8], i: usize) -> Piece
-    requires { ⌜ (i < length (now raw)) × (Scalars (chars (drop i (now raw))) × (getD (now raw) i 0 < 0x80)) ⌝ }
+    requires { ⌜ (i < length (now raw)) × Scalars (chars (drop i (now raw))) ⌝ }
     ensures { λ r. ⌜ Unescaped (now (raw .entry)) i r ⌝ }
 {
     let b = raw[i];
@@ -79,17 +78,20 @@ fn unescaped(raw: &[u8], i: usize) -> Piece
             next: i + 1 + n,
         };
     }
-    Piece {
-        code: b as u32,
-        next: i + 1,
+    if b < 0x80 {
+        return Piece {
+            code: b as u32,
+            next: i + 1,
+        };
     }
+    above_ascii(raw, i)
 }
 
-// An ASCII letter or digit, which is neither a space nor escaped anywhere.
-fn plain(b: u8) -> bool
-    ensures { λ r. ⌜ r ≡ is-alphanumeric b ⌝ }
+// An ASCII character that is written as it is behind another one.
+fn plain(b: u8, pre: bool) -> bool
+    ensures { λ r. ⌜ r ≡ plain pre b ⌝ }
 {
-    ((b'0' <= b) & (b <= b'9')) | (((b'A' <= b) & (b <= b'Z')) | ((b'a' <= b) & (b <= b'z')))
+    (b < 0x80) & (b != b'&') & (pre | !(((9 <= b) & (b <= 13)) | (b == b' ') | special(b as u32)))
 }
 
 // A space outside `pre`.
@@ -222,34 +224,52 @@ impl Pen {
     }
 }
 
-// Where the ASCII spaces from i on end. After a first space they change nothing.
+// Where the spaces from i on end. After a first space they change nothing.
 fn blanks_end(raw: &[u8], i: usize) -> usize
-    requires { ⌜ i ≤ length (now raw) ⌝ }
-    ensures { λ r. ⌜ (drop r (now (raw .entry)) ≡ drop-while ascii-space (drop i (now (raw .entry)))) × ((i ≤ r) × (r ≤ length (now (raw .entry)))) ⌝ }
+    requires { ⌜ (i ≤ length (now raw)) × Scalars (chars (drop i (now raw))) ⌝ }
+    ensures { λ r. ⌜ (chars (drop r (now (raw .entry))) ≡ trim-start (chars (drop i (now (raw .entry))))) × ((i ≤ r) × (r ≤ length (now (raw .entry)))) ⌝ }
 {
     let mut j = i;
     while j < raw.len() {
         let b = raw[j];
-        if 0x80 <= b {
+        if b < 0x80 {
+            if !text::is_space(b as u32) {
+                return j;
+            }
+            j += 1;
+            continue;
+        }
+        let v = above_ascii(raw, j);
+        if !text::is_space(v.code) {
             return j;
         }
-        if !text::is_space(b as u32) {
-            return j;
-        }
-        j += 1;
+        j = v.next;
     }
     j
 }
 
-// The characters of a text, one after the other.
-fn ink(pen: Pen, out: &mut [u8], raw: &[u8], pre: bool) -> Pen
-    requires { ⌜ (pen .len + 2 + 2 * length (now raw) ≤ length (now out)) × Scalars (chars (now raw)) ⌝ }
-    ensures { λ r. ⌜ ((s : State) → s .pre ≡ pre → pen-state s r (now (out .exit)) ≡ put-all (pen .first) (unescape 0 (chars (now (raw .entry)))) (pen-state s pen (now (out .entry)))) ⌝ }
+// A pen, and where the text goes on.
+pub struct Inked {
+    pub pen: Pen,
+    pub next: usize,
+}
+
+// The characters from i on, behind one that is written, up to the next `&`. Nothing here is at the start of a line or of the text, so that few
+// tests are left for each.
+fn run(pen: Pen, out: &mut [u8], raw: &[u8], from: usize, pre: bool) -> Inked
+    requires { ⌜ (from ≤ length (now raw)) × (Scalars (chars (drop from (now raw))) × (pen .len + pending (pen .space) + 2 * (length (now raw) - from) < length (now out))) ⌝ }
+    requires { ⌜ Behind pre pen (now out) ⌝ }
+    ensures { λ r. ⌜ ((s t : State) (m : ℕ) → s .pre ≡ pre → Inking (now (raw .entry)) s t m (now (out .entry)) pen from → Inking (now (raw .entry)) s t m (now (out .exit)) (r .pen) (r .next)) × (from ≤ r .next) ⌝ }
 {
     let mut p = pen;
-    let mut i = 0;
+    let mut i = from;
     while i < raw.len() {
         let b = raw[i];
+        if plain(b, pre) {
+            p = p.bare(out, b);
+            i += 1;
+            continue;
+        }
         if 0x80 <= b {
             let v = above_ascii(raw, i);
             if blank(v.code, pre) {
@@ -261,24 +281,39 @@ fn ink(pen: Pen, out: &mut [u8], raw: &[u8], pre: bool) -> Pen
             i = v.next;
             continue;
         }
-        if plain(b) | (pre & (b != b'&')) {
-            p = p.bare(out, b);
-            i += 1;
-            continue;
+        if b == b'&' {
+            return Inked { pen: p, next: i };
         }
-        if !pre & special(b as u32) {
+        if special(b as u32) {
             p = p.escaped(out, b);
             i += 1;
             continue;
         }
+        p = p.pause(out);
+        i += 1;
+    }
+    Inked { pen: p, next: i }
+}
+
+// The characters of a text, one after the other.
+fn ink(pen: Pen, out: &mut [u8], raw: &[u8], pre: bool) -> Pen
+    requires { ⌜ (pen .len + 2 + 2 * length (now raw) ≤ length (now out)) × Scalars (chars (now raw)) ⌝ }
+    ensures { λ r. ⌜ ((s : State) → s .pre ≡ pre → pen-state s r (now (out .exit)) ≡ put-all (pen .first) (unescape 0 (chars (now (raw .entry)))) (pen-state s pen (now (out .entry)))) ⌝ }
+{
+    let mut p = pen;
+    let mut i = 0;
+    while i < raw.len() {
         let u = unescaped(raw, i);
         if blank(u.code, pre) {
             p = p.pause(out);
             i = blanks_end(raw, u.next);
             continue;
         }
-        p = p.write(out, u.code, pre);
-        i = u.next;
+        let w = p.write(out, u.code, pre);
+        let r = run(w, out, raw, u.next, pre);
+        let q = r.pen;
+        p = q;
+        i = r.next;
     }
     p
 }

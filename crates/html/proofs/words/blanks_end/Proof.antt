@@ -1,35 +1,30 @@
 -- `blanks_end` meets its contract: from each space on, what is left is the same.
 -- Assumes nothing.
-use mathlib.Core.Path.{_≡_, refl, sym, _∙_}
+use mathlib.Core.Path.{_≡_, refl, sym, _∙_, subst}
 use native.Mathlib.Omega.{arith}
 use denote.Ref.{now}
 use borrow.Author.Tests.{not-true, not-false}
 use Prim.Native.Nat.{_-_, _≤_}
-use lib.ListN.{length, getD, drop}
-use Rattle.text.specs.Words.{drop-while}
-use Rattle.html.specs.Pen.{ascii-space}
-use Rattle.html.proofs.TextLaws.{blanks-end, blanks-stop, blanks-more, high-no-space, ascii-space-is}
+use lib.ListN.{length, drop}
+use Rattle.text.specs.Trim.{trim-start}
+use Rattle.text.specs.Utf8.{Scalars, chars}
+use Rattle.text.proofs.Laws.{advance-ascii, advance-end, utf8-size}
+use Rattle.html.proofs.TextLaws.{start-none, start-stop, start-more}
 use borrow.Author.Needs.{needs}
 use Rattle.html.proofs.words.blanks_end.Statement.{statement}
 use Rattle.html.proofs.words.blanks_end.Tie as tie
 
 abbrev Inv-loop : tie.InvT-loop
-Inv-loop raw i j₀ j = (drop-while ascii-space (drop j raw) ≡ drop-while ascii-space (drop i raw)) × ((i ≤ j) × (j ≤ length raw))
+Inv-loop raw i j₀ j = (trim-start (chars (drop j raw)) ≡ trim-start (chars (drop i raw))) × (Scalars (chars (drop j raw)) × ((i ≤ j) × (j ≤ length raw)))
 
 abbrev μ-loop : tie.MeasureT-loop
 μ-loop raw i j₀ j = length raw - j
 
 loop-holds : tie.Need-loop-holds Inv-loop μ-loop
-loop-holds c = (refl, (omega arith, omega arith))
+loop-holds c = (refl, (c .before .pre .1, (omega arith, omega arith)))
 
 shared-slice-read-b : tie.Need-shared-slice-read-b Inv-loop μ-loop
 shared-slice-read-b c = search needs
-
-returns : tie.Need-returns Inv-loop μ-loop
-returns c =
-    let l = c .before .before .before .loop in
-    let h = now (c .before .before .before .before .before .args .raw) in
-    (sym (blanks-stop h (l .j) (c .before .before .loop-test .taken) (high-no-space (getD h (l .j) 0) (c .if1 .taken))) ∙ l .inv .0, l .inv .1)
 
 cast-is-space : tie.Need-cast-is-space Inv-loop μ-loop
 cast-is-space c = search needs
@@ -37,11 +32,11 @@ cast-is-space c = search needs
 is-space-requires : tie.Need-is-space-requires Inv-loop μ-loop
 is-space-requires c κs = search needs
 
-returns-2 : tie.Need-returns-2 Inv-loop μ-loop
-returns-2 c =
+returns : tie.Need-returns Inv-loop μ-loop
+returns c =
     let l = c .before .before .before .before .before .loop in
-    let h = now (c .before .before .before .before .before .before .before .args .raw) in
-    (sym (blanks-stop h (l .j) (c .before .before .before .before .loop-test .taken) (ascii-space-is (getD h (l .j) 0) (c .before .before .if1 .left) ∙ sym (c .before .is-space .ensures) ∙ not-true _ (c .if2 .taken))) ∙ l .inv .0, l .inv .1)
+    let q = advance-ascii (now (c .before .before .before .before .before .before .before .args .raw)) (l .j) (c .before .before .before .before .loop-test .taken) (c .before .before .if1 .taken) in
+    (start-stop q (sym (c .before .is-space .ensures) ∙ not-true _ (c .if2 .taken)) ∙ l .inv .0, l .inv .1 .1)
 
 add-j : tie.Need-add-j Inv-loop μ-loop
 add-j c = search needs
@@ -52,14 +47,35 @@ loop-less c = search needs
 loop-again : tie.Need-loop-again Inv-loop μ-loop
 loop-again c =
     let l = c .before .before .before .before .before .loop in
-    let h = now (c .before .before .before .before .before .before .before .args .raw) in
-    (sym (blanks-more h (l .j) (c .before .before .before .before .loop-test .taken) (ascii-space-is (getD h (l .j) 0) (c .before .before .if1 .left) ∙ sym (c .before .is-space .ensures) ∙ not-false _ (c .if2 .left))) ∙ l .inv .0, (omega (arith, l .inv .1 .0), omega (arith, c .before .before .before .before .loop-test .taken)))
+    let q = advance-ascii (now (c .before .before .before .before .before .before .before .args .raw)) (l .j) (c .before .before .before .before .loop-test .taken) (c .before .before .if1 .taken) in
+    (start-more q (sym (c .before .is-space .ensures) ∙ not-false _ (c .if2 .left)) ∙ l .inv .0, (subst Scalars q (l .inv .1 .0) .1, (omega (arith, l .inv .1 .1 .0), omega (arith, c .before .before .before .before .loop-test .taken))))
+
+above-ascii-requires : tie.Need-above-ascii-requires Inv-loop μ-loop
+above-ascii-requires c κs = (c .before .before .loop-test .taken, (c .before .before .before .loop .inv .1 .0, c .if1 .left))
+
+is-space-requires-2 : tie.Need-is-space-requires-2 Inv-loop μ-loop
+is-space-requires-2 c κs = search needs
+
+returns-2 : tie.Need-returns-2 Inv-loop μ-loop
+returns-2 c =
+    let l = c .before .before .before .before .before .before .loop in
+    (start-stop (c .before .before .above-ascii .ensures .1 .1) (sym (c .before .is-space2 .ensures) ∙ not-true _ (c .if3 .taken)) ∙ l .inv .0, l .inv .1 .1)
+
+loop-less-2 : tie.Need-loop-less-2 Inv-loop μ-loop
+loop-less-2 c =
+    let v = c .before .before .above-ascii .ensures .0 in
+    omega (arith, utf8-size (c .before .before .above-ascii .result .code) .0, v .size, v .bound)
+
+loop-again-2 : tie.Need-loop-again-2 Inv-loop μ-loop
+loop-again-2 c =
+    let l = c .before .before .before .before .before .before .loop in
+    let v = c .before .before .above-ascii .ensures .0 in
+    (start-more (c .before .before .above-ascii .ensures .1 .1) (sym (c .before .is-space2 .ensures) ∙ not-false _ (c .if3 .left)) ∙ l .inv .0, (v .valid, (omega (arith, v .size, l .inv .1 .1 .0), v .bound)))
 
 returns-3 : tie.Need-returns-3 Inv-loop μ-loop
 returns-3 c =
     let l = c .before .loop in
-    let h = now (c .before .before .before .args .raw) in
-    (sym (blanks-end h (l .j) (c .loop-test .left)) ∙ l .inv .0, l .inv .1)
+    (start-none (advance-end (now (c .before .before .before .args .raw)) (l .j) (c .loop-test .left)) ∙ l .inv .0, l .inv .1 .1)
 
 pub blanks-end-spec : {M : Type 1} → statement M
-blanks-end-spec = tie.close (tie.spec Inv-loop μ-loop loop-holds shared-slice-read-b returns cast-is-space is-space-requires returns-2 add-j loop-less loop-again returns-3)
+blanks-end-spec = tie.close (tie.spec Inv-loop μ-loop loop-holds shared-slice-read-b cast-is-space is-space-requires returns add-j loop-less loop-again above-ascii-requires is-space-requires-2 returns-2 loop-less-2 loop-again-2 returns-3)
