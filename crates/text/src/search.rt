@@ -9,31 +9,31 @@ ghost use Rattle.text.specs.Run.{RunTo, SeekTo, other};
 ghost use Rattle.text.specs.Find.{found};
 use crate::Found;
 
-// Whether the 16 bytes from i on are other bytes than b, tested as in `is_ascii_block`.
+// Whether the 32 bytes from i on are other bytes than b, tested as in `is_ascii_block`.
 fn is_other_block(s: &[u8], i: usize, b: u8) -> bool
-    requires { ⌜ i + 16 ≤ length (now s) ⌝ }
-    ensures { λ r. ⌜ r ≡ all (other b) (take 16 (drop i (now (s .entry)))) ⌝ }
+    requires { ⌜ i + 32 ≤ length (now s) ⌝ }
+    ensures { λ r. ⌜ r ≡ all (other b) (take 32 (drop i (now (s .entry)))) ⌝ }
 {
     let mut others = true;
     let mut k = 0;
-    while k < 16 {
+    while k < 32 {
         others = others & (s[i + k] != b);
         k += 1;
     }
     others
 }
 
-// Where the blocks of 16 bytes from i on without b end.
+// Where the blocks of 32 bytes from i on without b end.
 fn other_blocks(s: &[u8], i: usize, b: u8) -> usize
     requires { ⌜ i ≤ length (now s) ⌝ }
     ensures { λ r. ⌜ RunTo (other b) (now (s .entry)) i r ⌝ }
 {
     let mut j = i;
-    while 16 <= s.len() - j {
+    while 32 <= s.len() - j {
         if !is_other_block(s, j, b) {
             return j;
         }
-        j += 16;
+        j += 32;
     }
     j
 }

@@ -11,10 +11,10 @@ use Rattle.text.proofs.search.is_other_block.Statement.{statement}
 use Rattle.text.proofs.search.is_other_block.Tie as tie
 
 abbrev Inv-loop : tie.InvT-loop
-Inv-loop s i b others₀ k₀ others k = (others ≡ all (other b) (take k (drop i s))) × (k ≤ 16)
+Inv-loop s i b others₀ k₀ others k = (others ≡ all (other b) (take k (drop i s))) × (k ≤ 32)
 
 abbrev μ-loop : tie.MeasureT-loop
-μ-loop s i b others₀ k₀ others k = 16 - k
+μ-loop s i b others₀ k₀ others k = 32 - k
 
 loop-holds : tie.Need-loop-holds Inv-loop μ-loop
 loop-holds c = (refl, omega arith)
@@ -38,7 +38,7 @@ loop-again c =
     (block-next (other (a .b)) (a .s .now) (a .i) (c .before .before .loop .k) _ (omega arith) (c .before .before .loop .inv .0), omega arith)
 
 returns : tie.Need-returns Inv-loop μ-loop
-returns c = let q : c .before .loop .k ≡ 16 = omega arith in c .before .loop .inv .0 ∙ rw q
+returns c = let q : c .before .loop .k ≡ 32 = omega arith in c .before .loop .inv .0 ∙ rw q
 
 pub is-other-block-spec : {M : Type 1} → statement M
 is-other-block-spec =

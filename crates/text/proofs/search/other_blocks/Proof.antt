@@ -38,7 +38,7 @@ loop-again : tie.Need-loop-again Inv-loop μ-loop
 loop-again c =
     let v = c .before .before .before .loop .inv in
     let h = v .high in
-    past-block (other _) _ _ 16 _ v (omega arith) (sym (c .before .is-other-block .ensures) ∙ not-false (c .before .is-other-block .result) (c .if1 .left))
+    past-block (other _) _ _ 32 _ v (omega arith) (sym (c .before .is-other-block .ensures) ∙ not-false (c .before .is-other-block .result) (c .if1 .left))
 
 returns-2 : tie.Need-returns-2 Inv-loop μ-loop
 returns-2 c = c .before .loop .inv
