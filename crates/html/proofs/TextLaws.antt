@@ -210,6 +210,10 @@ start-scalars (x ∷ xs) h =
     ⊎-elim (λ e. rw (start-space x xs e) (start-scalars xs (h .1))) (λ e. rw (start-other x xs e) h) (decide (is-space x))
 
 -- the loop that looks for their end
+pub blank-is-space : is-space 32 ≡ true
+unfolding is-space
+blank-is-space = refl
+
 pub start-none : {cs : List ℕ} → cs ≡ [] → cs ≡ trim-start cs
 start-none q = q ∙ start-nil ∙ ap trim-start (sym q)
 

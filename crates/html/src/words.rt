@@ -232,6 +232,11 @@ fn blanks_end(raw: &[u8], i: usize) -> usize
     let mut j = i;
     while j < raw.len() {
         let b = raw[j];
+        // the most frequent one first
+        if b == b' ' {
+            j += 1;
+            continue;
+        }
         if b < 0x80 {
             if !text::is_space(b as u32) {
                 return j;
