@@ -17,7 +17,7 @@ use Rattle.sheet.specs.Reading.{_<|>_, strip, many}
 use Rattle.sheet.specs.Tree.{Kind, plain, strong, em, both, code, Run, run, Mark, ul, ol, Items, Item, Block, heading, list}
 use Rattle.sheet.specs.Grammar as G
 use Rattle.sheet.specs.Grammar.{NL, Char, Many, stop, more, Text, IsRun, is-run, Line, ThenNL, IsItem, is-alone, is-with, ListOf, IsList, IsBlock, is-heading, is-para, IsPage, shown, singles, first-is, fits, apart, opens, closes, opens-h, closes-h, before, after}
-use Rattle.sheet.specs.Reader.{Answer, nl?, own, char, text, opening, kind, one-run, line, then-nl, item, marked, list-of, read-list, digit, enclosed, headed, read-heading, read-para, block, read-page, referred}
+use Rattle.sheet.specs.Reader.{Answer, nl?, own, char, text, opening, kind, one-run, line, then-nl, item, marked, list-of, read-list, digit, closed-by, headed, read-heading, read-para, block, read-page, referred}
 use Rattle.sheet.proofs.Conditions.{neat-of, apart-rest}
 use Rattle.sheet.proofs.ReadingLaws.{alt-left, alt-right, strip-append, front, many-stop, many-more}
 use Rattle.sheet.proofs.Sound.{Listed}
@@ -236,31 +236,27 @@ read-list-reads (suc d) =
 digit-complete : (n : ℕ) (s : List ℕ) → 1 ≤ n → n ≤ 6 → digit ((48 + n) ∷ s) ≡ some (n, s)
 digit-complete n s lo hi = let e : 48 + n - 48 ≡ n = omega arith in rw (le-leb 49 (48 + n) (omega arith), le-leb (48 + n) 54 (omega arith), e)
 
-enclosed-complete : (p q : List ℕ) {s r : List ℕ} {l : List Run} → Line s l (q ++ r) → Ends (q ++ r) → enclosed p q (p ++ s) ≡ some (l, r)
-unfolding enclosed
-enclosed-complete p q {s} {r} h e = rw (strip-append p s, line-complete h e, strip-append q r)
-
-headed-complete : (n : ℕ) {s r : List ℕ} {l : List Run} → Line s l (closes-h n ++ r) → headed n (str ">" ++ s) ≡ some (heading n l, r)
-unfolding headed
-headed-complete n h = rw (enclosed-complete (str ">") (closes-h n) h (closing _))
+closed-complete : (q : List ℕ) {s r : List ℕ} {l : List Run} → Line s l (q ++ r) → Ends (q ++ r) → closed-by q s ≡ some (l, r)
+unfolding closed-by
+closed-complete q {s} {r} h e = rw (line-complete h e, strip-append q r)
 
 heading-complete : (n : ℕ) {s r : List ℕ} {l : List Run} → 1 ≤ n → n ≤ 6 → Line s l (closes-h n ++ r) → read-heading (opens-h n ++ s) ≡ some (heading n l, r)
-unfolding read-heading
-heading-complete n {s} lo hi h = rw (digit-complete n (str ">" ++ s) lo hi) (headed-complete n h)
+unfolding read-heading headed
+heading-complete n {s} lo hi h = rw (digit-complete n (str ">" ++ s) lo hi, closed-complete (closes-h n) h (closing _))
 
 no-heading : (b : ℕ) (s : List ℕ) → eqb 104 b ≡ false → read-heading (60 ∷ b ∷ s) ≡ none
 unfolding read-heading
 no-heading b s e = rw e
 
 list-block : {s r : List ℕ} {m : Mark} {its : Items} → Opens s → read-list 8 s ≡ some ((m, its), r) → block s ≡ some (list m its, r)
-unfolding block read-heading enclosed read-para
+unfolding block read-heading read-para
 list-block (opened ul s₀) e = rw e
 list-block (opened ol s₀) e = rw e
 
 block-complete : (s : List ℕ) (b : Block) (r : List ℕ) → IsBlock s b r → block s ≡ some (b, r)
 unfolding block read-para
 block-complete s b r (is-heading {s = s₀} n lo hi h) = alt-left (read-heading (opens-h n ++ s₀)) _ (heading-complete n lo hi h)
-block-complete s b r (is-para {s = s₀} h) = alt-right (read-heading (str "<p>" ++ s₀)) _ (no-heading 112 (str ">" ++ s₀) refl) ∙ rw (enclosed-complete (str "<p>") (str "</p>") h (closing _))
+block-complete s b r (is-para {s = s₀} h) = alt-right (read-heading (str "<p>" ++ s₀)) _ (no-heading 112 (str ">" ++ s₀) refl) ∙ rw (closed-complete (str "</p>") h (closing _))
 block-complete s b r (G.is-list {m = m} {its = its} h) = list-block (read-list-reads 8 .begins s m its r h) (read-list-reads 8 .complete s m its r h)
 
 block-first : (s : List ℕ) (b : Block) (r : List ℕ) → IsBlock s b r → nl? s ≡ s
@@ -276,7 +272,7 @@ reads-blocks : Reads IsBlock block
 reads-blocks = record { complete = block-complete; no-nl = block-first; less = block-less }
 
 no-block : block [] ≡ none
-unfolding block read-heading enclosed read-para read-list list-of
+unfolding block read-heading read-para read-list list-of
 no-block = refl
 
 pub page-complete : {s : List ℕ} {t : List Block} → IsPage s t → read-page s ≡ some t

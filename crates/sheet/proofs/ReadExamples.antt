@@ -17,7 +17,7 @@ use Rattle.markdown.specs.Blocks.{is-rule, marker-at, list-marker, comment, cle
 use Rattle.sheet.specs.Reading.{many}
 use Rattle.sheet.specs.Tree.{plain, strong, em, both, code, run, ul, ol, end, leaf, node, Block, heading, para, list}
 use Rattle.sheet.specs.Grammar.{shown, singles, first-is, last-is, fits, apart, first-letter, last-no-blank, neat}
-use Rattle.sheet.specs.Reader.{own, referred, char, text, kind, one-run, line, item, list-of, read-list, enclosed, headed, read-heading, read-para, block, read-page}
+use Rattle.sheet.specs.Reader.{own, referred, char, text, kind, one-run, line, item, list-of, read-list, closed-by, headed, read-heading, read-para, block, read-page}
 use Rattle.sheet.proofs.Sound.{page-sound}
 use Rattle.sheet.specs.Written.{escaped, written-runs, joined, rows-from, rows, written, blocks-of}
 use Rattle.sheet.proofs.SheetReads.{sheet-reads}
@@ -34,7 +34,7 @@ tree =
     ∷ []
 
 read : read-page page ≡ some tree
-unfolding many is-space is-control special shown singles first-is last-is fits apart first-letter last-no-blank neat own char referred text kind one-run line item list-of read-list enclosed headed read-heading read-para block read-page
+unfolding many is-space is-control special shown singles first-is last-is fits apart first-letter last-no-blank neat own char referred text kind one-run line item list-of read-list closed-by headed read-heading read-para block read-page
 read = refl
 
 abbrev markdown : List ℕ

@@ -12,7 +12,7 @@ use Rattle.sheet.specs.Reading.{_<|>_, strip, many}
 use Rattle.sheet.specs.Tree.{Kind, plain, strong, em, both, code, Run, Mark, ul, ol, Items, Item, alone, items, Block, list}
 use Rattle.sheet.specs.Grammar as G
 use Rattle.sheet.specs.Grammar.{NL, Char, Many, stop, more, Text, IsRun, is-run, Line, ThenNL, IsItem, is-alone, is-with, ListOf, IsList, IsBlock, is-heading, is-para, IsPage, shown, fits, neat, opens, closes, closes-h, before, after}
-use Rattle.sheet.specs.Reader.{Answer, nl?, own, means, referred, char, text, opening, kind, one-run, line, then-nl, with-list, item, some-items, marked, list-of, read-list, digit, enclosed, headed, read-heading, read-para, block, at-end, read-page}
+use Rattle.sheet.specs.Reader.{Answer, nl?, own, means, referred, char, text, opening, kind, one-run, line, then-nl, with-list, item, some-items, marked, list-of, read-list, digit, closed-by, headed, read-heading, read-para, block, at-end, read-page}
 use Rattle.text.specs.Chars.{within}
 use Rattle.text.proofs.Tests.{within-true, then-some}
 use Rattle.sheet.proofs.ReadingLaws.{none-some, alt-inv, strip-inv, ensure-inv}
@@ -145,31 +145,29 @@ unfolding read-list
 read-list-sound zero s y e = none-some e
 read-list-sound (suc d) s y e = list-sound (IsItem (IsList d)) (item (read-list d)) (item-sound (IsList d) (read-list d) (read-list-sound d)) s y e
 
--- a line between two tags
-abbrev Enclosed : List ℕ → List ℕ → List ℕ → List Run → List ℕ → Type 0
-Enclosed p q s l r = (t : List ℕ) × (s ≡ p ++ t) × Line t l (q ++ r)
+-- a line and the tag after it
+abbrev Closed : List ℕ → List ℕ → List Run → List ℕ → Type 0
+Closed q s l r = Line s l (q ++ r)
 
-enclosed-sound : (p q : List ℕ) → Sound (Enclosed p q) (enclosed p q)
-unfolding enclosed
-enclosed-sound p q s y e =
-    let o = then-some (strip p s) _ e in
-    let l = then-some (line (o .0)) _ (o .2) in
+closed-sound : (q : List ℕ) → Sound (Closed q) (closed-by q)
+unfolding closed-by
+closed-sound q s y e =
+    let l = then-some (line s) _ e in
     let c = then-some (strip q (l .0 .1)) _ (l .2) in
-    gives (Enclosed p q) (c .2)
-    (o .0, strip-inv p s (o .1), subst (Line (o .0) (l .0 .0)) (strip-inv q (l .0 .1) (c .1)) (line-sound (o .0) (l .0) (l .1)))
+    gives (Closed q) (c .2) (subst (Line s (l .0 .0)) (strip-inv q (l .0 .1) (c .1)) (line-sound s (l .0) (l .1)))
 
 heading-sound : Sound IsBlock read-heading
 unfolding read-heading headed
 heading-sound s y e =
     let o = then-some (strip (str "<h") s) _ e in
     let n = then-some (digit (o .0)) _ (o .2) in
-    let l = then-some (enclosed (str ">") (closes-h (n .0 .0)) (n .0 .1)) _ (n .2) in
-    let (_, g, h) = enclosed-sound (str ">") (closes-h (n .0 .0)) (n .0 .1) (l .0) (l .1) in
+    let g = then-some (strip (str ">") (n .0 .1)) _ (n .2) in
+    let l = then-some (closed-by (closes-h (n .0 .0)) (g .0)) _ (g .2) in
     let d = digit-inv (o .0) (n .0) (n .1) in
     gives IsBlock (l .2)
     (from IsBlock
-    (strip-inv (str "<h") s (o .1) ∙ ap (λ (r : List ℕ). str "<h" ++ r) (d .2 ∙ ap (λ (r : List ℕ). (48 + n .0 .0) ∷ r) g))
-    (is-heading (n .0 .0) (d .0) (d .1) h))
+    (strip-inv (str "<h") s (o .1) ∙ ap (λ (r : List ℕ). str "<h" ++ r) (d .2 ∙ ap (λ (r : List ℕ). (48 + n .0 .0) ∷ r) (strip-inv (str ">") (n .0 .1) (g .1))))
+    (is-heading (n .0 .0) (d .0) (d .1) (closed-sound (closes-h (n .0 .0)) (g .0) (l .0) (l .1))))
   where
     digit-inv : (s : List ℕ) (y : ℕ × List ℕ) → digit s ≡ some y → (1 ≤ y .0) × (y .0 ≤ 6) × (s ≡ (48 + y .0) ∷ y .1)
     digit-inv [] y e = none-some e
@@ -184,9 +182,9 @@ heading-sound s y e =
 para-sound : Sound IsBlock read-para
 unfolding read-para
 para-sound s y e =
-    let l = then-some (enclosed (str "<p>") (str "</p>") s) _ e in
-    let (_, g, h) = enclosed-sound (str "<p>") (str "</p>") s (l .0) (l .1) in
-    gives IsBlock (l .2) (from IsBlock g (is-para h))
+    let o = then-some (strip (str "<p>") s) _ e in
+    let l = then-some (closed-by (str "</p>") (o .0)) _ (o .2) in
+    gives IsBlock (l .2) (from IsBlock (strip-inv (str "<p>") s (o .1)) (is-para (closed-sound (str "</p>") (o .0) (l .0) (l .1))))
 
 pub block-sound : Sound IsBlock block
 unfolding block

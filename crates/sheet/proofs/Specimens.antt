@@ -22,7 +22,7 @@ use Rattle.markdown.specs.Blocks.{is-rule, marker-at, list-marker, comment as c
 use Rattle.markdown.specs.Calls.{recorded as recorded-blocks, with-buffers as markdown-buffers, blocks-call}
 use Rattle.sheet.specs.Reading.{many}
 use Rattle.sheet.specs.Grammar.{shown as shown-char, singles, first-is, last-is, fits, apart, first-letter, last-no-blank, neat}
-use Rattle.sheet.specs.Reader.{own, referred, char as sheet-char, text as sheet-text, kind, one-run, line, item as sheet-item, list-of, read-list, enclosed, headed, read-heading, read-para, block as sheet-block, read-page}
+use Rattle.sheet.specs.Reader.{own, referred, char as sheet-char, text as sheet-text, kind, one-run, line, item as sheet-item, list-of, read-list, closed-by, headed, read-heading, read-para, block as sheet-block, read-page}
 use Rattle.sheet.specs.Written.{rows-from, rows, escaped, written-runs, joined, written}
 use Rattle.sheet.specs.Sheet.{small}
 use Rattle.sheet.specs.Calls.{sheet, Tested, no-sheet, sheet-call}
@@ -80,5 +80,5 @@ specimens =
     ∷ []
 
 pub specimens-hold : map (λ r. shown (r .0)) specimens ≡ map (λ r. r .1) specimens
-unfolding shown index take-while drop-while trim-end-matches is-space is-control is-scalar size utf8 decode starts3 starts4 char-of char scan chars is-utf8 cut digits digit number-digits some-digits from-str-radix names number-written number named reference unescaped unescape line-start block newline spaced marks special opens ends-with-digit escape put blank paused next put-all text tags tag-of list-changed item tag listed shown-tag skipped element inside words comment a-tag markup turn loop finish html-to-markdown converted-page page-buffers html-to-markdown-call encode-span encode-spans encode-block encode-blocks link code-step star-step link-step image-step step flush walk spans-at spans is-rule marker-at list-marker comment-here cleaned lines replace row flush-paragraph heading paragraph continuation read-text read-line read-lines blocks recorded-blocks markdown-buffers blocks-call many shown-char singles first-is last-is fits apart first-letter last-no-blank neat own sheet-char referred sheet-text kind one-run line sheet-item list-of read-list enclosed headed read-heading read-para sheet-block read-page rows-from rows escaped written-runs joined written small sheet sheet-call
+unfolding shown index take-while drop-while trim-end-matches is-space is-control is-scalar size utf8 decode starts3 starts4 char-of char scan chars is-utf8 cut digits digit number-digits some-digits from-str-radix names number-written number named reference unescaped unescape line-start block newline spaced marks special opens ends-with-digit escape put blank paused next put-all text tags tag-of list-changed item tag listed shown-tag skipped element inside words comment a-tag markup turn loop finish html-to-markdown converted-page page-buffers html-to-markdown-call encode-span encode-spans encode-block encode-blocks link code-step star-step link-step image-step step flush walk spans-at spans is-rule marker-at list-marker comment-here cleaned lines replace row flush-paragraph heading paragraph continuation read-text read-line read-lines blocks recorded-blocks markdown-buffers blocks-call many shown-char singles first-is last-is fits apart first-letter last-no-blank neat own sheet-char referred sheet-text kind one-run line sheet-item list-of read-list closed-by headed read-heading read-para sheet-block read-page rows-from rows escaped written-runs joined written small sheet sheet-call
 specimens-hold = refl

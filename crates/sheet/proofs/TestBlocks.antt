@@ -19,12 +19,12 @@ use Rattle.text.proofs.Utf8.{utf8-1}
 use Rattle.sheet.specs.Reading.{_<|>_, strip}
 use Rattle.sheet.specs.Tree.{Run, Mark, Items, end, leaf, node, alone, with, Block, heading, para, list}
 use Rattle.sheet.specs.Grammar.{closes-h, is-list, IsList}
-use Rattle.sheet.specs.Reader.{Answer, line, read-list, digit, enclosed, headed, read-heading, read-para, block}
+use Rattle.sheet.specs.Reader.{Answer, line, read-list, digit, closed-by, headed, read-heading, read-para, list-of, block}
 use Rattle.sheet.specs.Written.{Row, rows-from, rows, written-runs, written-row, joined}
 use Rattle.sheet.specs.Weight.{weight, alike, added}
 use Rattle.sheet.specs.Says.{from, Says, low, ascii}
 use Rattle.sheet.specs.Forms.{led-rows, list-form, led, block-form}
-use Rattle.sheet.proofs.ReadingLaws.{alt-left, alt-right}
+use Rattle.sheet.proofs.ReadingLaws.{strip-inv}
 use Rattle.sheet.proofs.Sound.{read-list-sound}
 use Rattle.sheet.specs.declared.count.Count.{Count}
 use Rattle.sheet.specs.declared.count.Read.{Read}
@@ -34,25 +34,20 @@ use Rattle.sheet.proofs.PageRead.{length-hashes}
 use Rattle.sheet.proofs.TestCount.{low-marks, weight-append, weight-ascii}
 use Rattle.sheet.proofs.TestSays.{Got, answers, refuses}
 
--- ---- a line between two tags
-module _ (p q s : List ℕ) where
-  pub enclosed-1 : strip p s ≡ none → enclosed p q s ≡ none
-  unfolding enclosed
-  enclosed-1 e = rw e
+-- ---- a line and the tag after it
+module _ (q s : List ℕ) where
+  pub closed-1 : line s ≡ none → closed-by q s ≡ none
+  unfolding closed-by
+  closed-1 f = rw f
 
-  module _ (s₁ : List ℕ) (e : strip p s ≡ some s₁) where
-    pub enclosed-2 : line s₁ ≡ none → enclosed p q s ≡ none
-    unfolding enclosed
-    enclosed-2 f = rw (e, f)
+  module _ (l : List Run) (s₁ : List ℕ) (f : line s ≡ some (l, s₁)) where
+    pub closed-2 : strip q s₁ ≡ none → closed-by q s ≡ none
+    unfolding closed-by
+    closed-2 g = rw (f, g)
 
-    module _ (l : List Run) (s₂ : List ℕ) (f : line s₁ ≡ some (l, s₂)) where
-      pub enclosed-3 : strip q s₂ ≡ none → enclosed p q s ≡ none
-      unfolding enclosed
-      enclosed-3 g = rw (e, f, g)
-
-      pub enclosed-4 : {r : List ℕ} → strip q s₂ ≡ some r → enclosed p q s ≡ some (l, r)
-      unfolding enclosed
-      enclosed-4 g = rw (e, f, g)
+    pub closed-3 : {r : List ℕ} → strip q s₁ ≡ some r → closed-by q s ≡ some (l, r)
+    unfolding closed-by
+    closed-3 g = rw (f, g)
 
 led-weight : (n : ℕ) (l : List Run) → weight (led n l) ≡ added (alike n) (weight (written-runs l))
 led-weight n l =
@@ -83,23 +78,9 @@ heading-weight n l =
     led-weight (min n 3 + 3) l ∙ ap (λ (w : Count). added w (weight (written-runs l))) (sym q) ∙ sym (weight-append p (written-runs l))
     ∙ ap weight (ap (λ (m : List ℕ). str "\n\n" ++ m) (append-assoc (repeat (min n 3) "#") (str " ") (written-runs l)))
 
-pub headed-says : (n : ℕ) (page : List ℕ) (at : ℕ) {k : ℕ} → k ≡ min n 3 → (r : Read) → Says (led (k + 3)) page at (enclosed (str ">") (closes-h n) (from page at)) r → Says block-form page at (headed n (from page at)) r
-unfolding headed
-headed-says n page at e r h =
-    says-as (led (min n 3 + 3)) block-form (heading n) (heading-weight n) page at (enclosed (str ">") (closes-h n) (from page at)) r (rw e at h)
-
--- ---- the digit of a heading
-module _ (page : List ℕ) (at : ℕ) (e : strip (str "<h") (from page at) ≡ some (from page (at + 2))) where
-  no-digit : within 49 54 (code-at page (at + 2)) ≡ false → digit (from page (at + 2)) ≡ none
-  no-digit h = ⊎-elim (λ l. rw (turn-is page (at + 2) (ltb-true (at + 2) (length page) l) .rest, h)) (λ l. rw (advance-end page (at + 2) (ltb-false (at + 2) (length page) l))) (decide (ltb (at + 2) (length page)))
-
-  pub heading-2 : within 49 54 (code-at page (at + 2)) ≡ false → read-heading (from page at) ≡ none
-  unfolding read-heading
-  heading-2 h = rw (e, no-digit h)
-
-pub heading-1 : (page : List ℕ) (at : ℕ) → strip (str "<h") (from page at) ≡ none → read-heading (from page at) ≡ none
-unfolding read-heading
-heading-1 page at e = rw e
+says-later : {A : Type 0} (form : A → List ℕ) (page : List ℕ) (at start : ℕ) (o : Answer A) (r : Read) → at ≤ start → Says form page start o r → Says form page at o r
+says-later form page at start none r l h = h
+says-later form page at start (some x) r l h = (h .0, h .1, record { starts = h .2 .starts; later = let p = h .2 .later in omega arith; within = h .2 .within })
 
 pub heading-in : (page : List ℕ) (at : ℕ) {r : Bool} → r ≡ within 49 54 (code-at page at) → r ≡ true → (49 ≤ code-at page at) × (code-at page at ≤ 54) × (at < length page)
 unfolding code-at
@@ -110,35 +91,45 @@ heading-in page at e f =
     past : 49 ≤ code-at page at → length page ≤ at → ⊥
     past h l = let z = ap (λ (s : List ℕ). getD s 0 0) (advance-end page at l) in omega arith
 
-says-later : {A : Type 0} (form : A → List ℕ) (page : List ℕ) (at start : ℕ) (o : Answer A) (r : Read) → at ≤ start → Says form page start o r → Says form page at o r
-says-later form page at start none r l h = h
-says-later form page at start (some x) r l h = (h .0, h .1, record { starts = h .2 .starts; later = let p = h .2 .later in omega arith; within = h .2 .within })
+module _ (page : List ℕ) (at : ℕ) {t : Bool} (e : t ≡ within 49 54 (code-at page at)) where
+  no-digit : t ≡ false → digit (from page at) ≡ none
+  no-digit f =
+      let h : within 49 54 (code-at page at) ≡ false = sym e ∙ f in
+      ⊎-elim (λ l. rw (turn-is page at (ltb-true at (length page) l) .rest, h)) (λ l. rw (advance-end page at (ltb-false at (length page) l))) (decide (ltb at (length page)))
 
-module _ (page : List ℕ) (at : ℕ) (e : strip (str "<h") (from page at) ≡ some (from page (at + 2))) (n : ℕ) (q : n ≡ code-at page (at + 2) - 48) (h : within 49 54 (code-at page (at + 2)) ≡ true) where
-  after-digit : digit (from page (at + 2)) ≡ some (n, from page (at + 3))
-  after-digit =
-      let i = heading-in page (at + 2) refl h in
-      let t = turn-is page (at + 2) (i .2) in
-      let c = code-at page (at + 2) in
-      let z : at + 2 + length (utf8 c) ≡ at + 3 = omega (arith, ap length (utf8-1 c (omega arith))) in
-      let s : from page (at + 2) ≡ c ∷ from page (at + 3) = t .rest ∙ ap (λ (k : ℕ). c ∷ from page k) z in
-      rw (s, h) (ap (λ (k : ℕ). some (k, from page (at + 3))) (sym q))
+  pub headed-1 : t ≡ false → headed (from page at) ≡ none
+  unfolding headed
+  headed-1 f = rw (no-digit f)
 
-  heading-is : read-heading (from page at) ≡ headed n (from page (at + 3))
-  unfolding read-heading
-  heading-is = rw (e, after-digit)
+  module _ (f : t ≡ true) {c : ℕ} (g : c ≡ code-at page at) where
+    after-digit : digit (from page at) ≡ some (c - 48, from page (at + 1))
+    after-digit =
+        let h : within 49 54 (code-at page at) ≡ true = sym e ∙ f in
+        let i = heading-in page at e f in
+        let z : at + length (utf8 (code-at page at)) ≡ at + 1 = omega (arith, ap length (utf8-1 (code-at page at) (omega arith))) in
+        let s : from page at ≡ code-at page at ∷ from page (at + 1) = turn-is page at (i .2) .rest ∙ ap (λ (k : ℕ). code-at page at ∷ from page k) z in
+        rw (s, h) (ap (λ (k : ℕ). some (k - 48, from page (at + 1))) (sym g))
 
-  pub heading-3 : (r : Read) → Says block-form page (at + 3) (headed n (from page (at + 3))) r → Says block-form page at (read-heading (from page at)) r
-  heading-3 r s = subst (λ (o : Answer Block). Says block-form page at o r) (sym heading-is) (says-later block-form page at (at + 3) (headed n (from page (at + 3))) r (omega arith) s)
+    pub headed-2 : strip (str ">") (from page (at + 1)) ≡ none → headed (from page at) ≡ none
+    unfolding headed
+    headed-2 h = rw (after-digit, h)
+
+    pub headed-3 : strip (str ">") (from page (at + 1)) ≡ some (from page (at + 1 + 1)) → {k : ℕ} → k ≡ min (c - 48) 3 → (r : Read)
+        → Says (led (k + 3)) page (at + 2) (closed-by (closes-h (c - 48)) (from page (at + 2))) r → Says block-form page at (headed (from page at)) r
+    unfolding headed
+    headed-3 h {k} m r s =
+        let n = c - 48 in
+        let o : Answer (List Run) = closed-by (closes-h n) (from page (at + 2)) in
+        let z : at + 1 + 1 ≡ at + 2 = omega arith in
+        let is : headed (from page at) ≡ (o >>= λ x. some (heading n (x .0), x .1)) = rw (after-digit, h, z) in
+        subst (λ (o : Answer Block). Says block-form page at o r) (sym is)
+        (says-later block-form page at (at + 2) (o >>= λ x. some (heading n (x .0), x .1)) r (omega arith)
+        (says-as (led (min n 3 + 3)) block-form (heading n) (heading-weight n) page (at + 2) o r (rw m at s)))
 
 -- ---- a paragraph
 para-weight : (l : List Run) → weight (led 2 l) ≡ weight (block-form (para l))
 unfolding rows joined
 para-weight l = led-weight 2 l ∙ ap (λ (w : Count). added w (weight (written-runs l))) (sym (weight-ascii (str "\n\n") refl)) ∙ sym (weight-append (str "\n\n") (written-runs l))
-
-pub para-says : (page : List ℕ) (at : ℕ) (r : Read) → Says (led 2) page at (enclosed (str "<p>") (str "</p>") (from page at)) r → Says block-form page at (read-para (from page at)) r
-unfolding read-para
-para-says page at r h = says-as (led 2) block-form para para-weight page at (enclosed (str "<p>") (str "</p>") (from page at)) r h
 
 -- ---- a list as a block
 led-joined : (r : Row) (rs : List Row) → led-rows (r ∷ rs) ≡ str "\n" ++ joined (str "\n") (map written-row (r ∷ rs))
@@ -180,25 +171,39 @@ module _ (page : List ℕ) (at : ℕ) where
   abbrev listed : Answer Block
   listed = read-list 8 s >>= λ x. some (list (x .0 .0) (x .0 .1), x .1)
 
-  pub block-1 : {n : ℕ} {w : Count} → Got block-form page at (read-heading s) n w → Says block-form page at (block s) (At n w)
-  unfolding block
-  block-1 g = answers block-form page at (block s) (alt-left (read-heading s) (read-para s <|> listed) (g .is)) (g .count) (g .later) (g .within)
+  alt-none : (o : Answer Block) → (o <|> none) ≡ o
+  alt-none none = refl
+  alt-none (some x) = refl
 
-  module _ (e : read-heading s ≡ none) where
-    pub block-2 : {n : ℕ} {w : Count} → Got block-form page at (read-para s) n w → Says block-form page at (block s) (At n w)
-    unfolding block
-    block-2 g =
-        answers block-form page at (block s) (alt-right (read-heading s) (read-para s <|> listed) e ∙ alt-left (read-para s) listed (g .is)) (g .count) (g .later) (g .within)
+  -- no two of the three begin alike
+  by-heading : {s₁ : List ℕ} → strip (str "<h") s ≡ some s₁ → block s ≡ headed s₁
+  unfolding block read-heading read-para read-list list-of
+  by-heading {s₁} e = ap block (strip-inv (str "<h") s e) ∙ alt-none (headed s₁)
 
-    module _ (f : read-para s ≡ none) where
-      block-list : block s ≡ listed
-      unfolding block
-      block-list = alt-right (read-heading s) (read-para s <|> listed) e ∙ alt-right (read-para s) listed f
+  by-para : {s₁ : List ℕ} → strip (str "<p>") s ≡ some s₁ → block s ≡ (closed-by (str "</p>") s₁ >>= λ x. some (para (x .0), x .1))
+  unfolding block read-heading read-para read-list list-of
+  by-para {s₁} e = ap block (strip-inv (str "<p>") s e) ∙ alt-none (closed-by (str "</p>") s₁ >>= λ x. some (para (x .0), x .1))
 
-      pub block-3 : read-list 8 s ≡ none → Says block-form page at (block s) No
-      block-3 h = refuses block-form page at (block s) (block-list ∙ rw h)
+  pub block-1 : strip (str "<h") s ≡ some (from page (at + 2)) → (r : Read) → Says block-form page (at + 2) (headed (from page (at + 2))) r → Says block-form page at (block s) r
+  block-1 e r h =
+      subst (λ (o : Answer Block). Says block-form page at o r) (sym (by-heading e))
+      (says-later block-form page at (at + 2) (headed (from page (at + 2))) r (omega arith) h)
 
-      pub block-4 : {n : ℕ} {a w c : Count} → Got (list-form 0) page at (read-list 8 s) n w → a ≡ alike 1 → c ≡ added a w → Says block-form page at (block s) (At n c)
-      block-4 {n} {a} {w} {c} g k m =
-          let x = g .what in
-          answers block-form page at (block s) (block-list ∙ rw (g .is)) (list-weight x (list-filled s (x, from page n) (g .is)) k (g .count) m) (g .later) (g .within)
+  pub block-2 : strip (str "<p>") s ≡ some (from page (at + 3)) → (r : Read) → Says (led 2) page (at + 3) (closed-by (str "</p>") (from page (at + 3))) r → Says block-form page at (block s) r
+  block-2 e r h =
+      let o : Answer (List Run) = closed-by (str "</p>") (from page (at + 3)) in
+      subst (λ (o : Answer Block). Says block-form page at o r) (sym (by-para e))
+      (says-later block-form page at (at + 3) (o >>= λ x. some (para (x .0), x .1)) r (omega arith) (says-as (led 2) block-form para para-weight page (at + 3) o r h))
+
+  module _ (e : strip (str "<h") s ≡ none) (f : strip (str "<p>") s ≡ none) where
+    block-list : block s ≡ listed
+    unfolding block read-heading read-para
+    block-list = rw (e, f)
+
+    pub block-3 : read-list 8 s ≡ none → Says block-form page at (block s) No
+    block-3 h = refuses block-form page at (block s) (block-list ∙ rw h)
+
+    pub block-4 : {n : ℕ} {a w c : Count} → Got (list-form 0) page at (read-list 8 s) n w → a ≡ alike 1 → c ≡ added a w → Says block-form page at (block s) (At n c)
+    block-4 {n} {a} {w} {c} g k m =
+        let x = g .what in
+        answers block-form page at (block s) (block-list ∙ rw (g .is)) (list-weight x (list-filled s (x, from page n) (g .is)) k (g .count) m) (g .later) (g .within)

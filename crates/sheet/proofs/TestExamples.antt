@@ -10,7 +10,7 @@ use Rattle.text.specs.Decimal.{digits}
 use Rattle.html.specs.State.{special}
 use Rattle.sheet.specs.Reading.{many}
 use Rattle.sheet.specs.Grammar.{shown, singles, first-is, last-is, fits, apart, first-letter, last-no-blank, neat}
-use Rattle.sheet.specs.Reader.{own, referred, char, text, kind, one-run, line, item, list-of, read-list, enclosed, headed, read-heading, read-para, block, read-page}
+use Rattle.sheet.specs.Reader.{own, referred, char, text, kind, one-run, line, item, list-of, read-list, closed-by, headed, read-heading, read-para, block, read-page}
 use Rattle.sheet.specs.Written.{rows-from, rows, escaped, written-runs, joined, written}
 use Rattle.sheet.specs.Sheet.{small}
 use Rattle.sheet.specs.Calls.{sheet, Tested, no-utf8, no-sheet, yes-sheet, sheet-call}
@@ -34,7 +34,7 @@ pages =
     ∷ []
 
 answers : map (λ (r : String × Tested). sheet-call (str (r .0))) pages ≡ map (λ (r : String × Tested). r .1) pages
-unfolding pages sheet-call sheet small decode is-utf8 chars scan utf8-char char-of starts3 starts4 is-scalar is-space is-control utf8 size digits special many shown singles first-is last-is fits apart first-letter last-no-blank neat own char referred text kind one-run line item list-of read-list enclosed headed read-heading read-para block read-page rows-from rows escaped written-runs joined written
+unfolding pages sheet-call sheet small decode is-utf8 chars scan utf8-char char-of starts3 starts4 is-scalar is-space is-control utf8 size digits special many shown singles first-is last-is fits apart first-letter last-no-blank neat own char referred text kind one-run line item list-of read-list closed-by headed read-heading read-para block read-page rows-from rows escaped written-runs joined written
 answers = refl
 
 -- a byte that is no character

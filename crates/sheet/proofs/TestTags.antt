@@ -85,7 +85,3 @@ module _ (t page : List ℕ) (at : ℕ) (h : ascii t ≡ true) {r : Bool} (e : r
 
   pub missing : r ≡ false → strip t (from page at) ≡ none
   missing f = no-tag t page at (tagged t page at h e) f
-
-pub stands-fits : {t page : List ℕ} {at m : ℕ} → Stands t page at → at ≤ m → length page ≤ m → at + length t ≤ m
-stands-fits {t} s h l =
-    ⊎-elim (λ p. omega (arith, s .inside (ltb-true 0 (length t) p))) (λ p. omega (arith, ltb-false 0 (length t) p)) (decide (ltb 0 (length t)))

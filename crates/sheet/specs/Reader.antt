@@ -100,26 +100,29 @@ abbrev pub digit : List ℕ → Answer ℕ
 digit [] = none
 digit (b ∷ s) = ensure (within 49 54 b) >>= λ _. some (b - 48, s)
 
--- a line between two tags
-unfoldable pub enclosed : List ℕ → List ℕ → List ℕ → Answer (List Run)
-enclosed p q s =
-    strip p s >>= λ s₁.
-    line s₁ >>= λ x.
+-- a line and the tag after it
+unfoldable pub closed-by : List ℕ → List ℕ → Answer (List Run)
+closed-by q s =
+    line s >>= λ x.
     strip q (x .1) >>= λ r.
     some (x .0, r)
 
--- a heading after its digit
-unfoldable pub headed : ℕ → List ℕ → Answer Block
-headed n s = enclosed (str ">") (closes-h n) s >>= λ x. some (heading n (x .0), x .1)
+-- a heading after its `<h`
+unfoldable pub headed : List ℕ → Answer Block
+headed s =
+    digit s >>= λ n.
+    strip (str ">") (n .1) >>= λ s₁.
+    closed-by (closes-h (n .0)) s₁ >>= λ x.
+    some (heading (n .0) (x .0), x .1)
 
 unfoldable pub read-heading : List ℕ → Answer Block
-read-heading s =
-    strip (str "<h") s >>= λ s₁.
-    digit s₁ >>= λ n.
-    headed (n .0) (n .1)
+read-heading s = strip (str "<h") s >>= headed
 
 unfoldable pub read-para : List ℕ → Answer Block
-read-para s = enclosed (str "<p>") (str "</p>") s >>= λ x. some (para (x .0), x .1)
+read-para s =
+    strip (str "<p>") s >>= λ s₁.
+    closed-by (str "</p>") s₁ >>= λ x.
+    some (para (x .0), x .1)
 
 unfoldable pub block : List ℕ → Answer Block
 block s =

@@ -1,8 +1,8 @@
 // The sheet test: document 01, "Sheet".
 ghost use mathlib.Core.Path.{_≡_};
 ghost use mathlib.Core.Bool.{true};
-ghost use Prim.Native.Nat.{_-_, _≤_, min};
-ghost use Rattle.sheet.specs.Reader.{enclosed, headed, read-heading, read-para, block};
+ghost use Prim.Native.Nat.{_-_, min};
+ghost use Rattle.sheet.specs.Reader.{closed-by, headed, block};
 ghost use Rattle.sheet.specs.Says.{from, ascii, Says};
 ghost use Rattle.sheet.specs.Forms.{led, block-form};
 ghost use Rattle.sheet.specs.Weight.{judged};
@@ -29,6 +29,23 @@ pub enum Verdict {
     NotUtf8,
 }
 
+// A line and the tag after it, counted with the `lead` ASCII characters that its written form has before it.
+fn closed_by(page: &[u8], at: usize, tag: &[u8], lead: usize) -> Read
+    requires { ⌜ ascii (now tag) ≡ true ⌝ }
+    ensures { λ r. ⌜ Says (led lead) (now (page .entry)) at (closed-by (now (tag .entry)) (from (now (page .entry)) at)) r ⌝ }
+{
+    let Read::At { next, count } = line(page, at) else {
+        return Read::No;
+    };
+    if !text::starts_with(page, next, tag) {
+        return Read::No;
+    }
+    Read::At {
+        next: next + tag.len(),
+        count: add(ascii(lead), count),
+    }
+}
+
 // The smaller of n and 3.
 fn level(n: u8) -> usize
     ensures { λ r. ⌜ r ≡ min n 3 ⌝ }
@@ -36,63 +53,31 @@ fn level(n: u8) -> usize
     if n < 3 { n as usize } else { 3 }
 }
 
-// A line between two tags, counted with the `lead` ASCII characters that its written form has before it.
-fn enclosed(page: &[u8], at: usize, start: &[u8], end: &[u8], lead: usize) -> Read
-    requires { ⌜ (ascii (now start) ≡ true) × (ascii (now end) ≡ true) ⌝ }
-    ensures { λ r. ⌜ Says (led lead) (now (page .entry)) at (enclosed (now (start .entry)) (now (end .entry)) (from (now (page .entry)) at)) r ⌝ }
-{
-    if !text::starts_with(page, at, start) {
-        return Read::No;
-    }
-    let Read::At { next, count } = line(page, at + start.len()) else {
-        return Read::No;
-    };
-    if !text::starts_with(page, next, end) {
-        return Read::No;
-    }
-    Read::At {
-        next: next + end.len(),
-        count: add(ascii(lead), count),
-    }
-}
-
-// A heading of number n after its digit.
-fn headed(page: &[u8], at: usize, n: u8) -> Read
-    requires { ⌜ n ≤ 6 ⌝ }
-    ensures { λ r. ⌜ Says block-form (now (page .entry)) at (headed n (from (now (page .entry)) at)) r ⌝ }
-{
-    let close = [60, 47, 104, 48 + n, 62];
-    enclosed(page, at, b">", &close, level(n) + 3)
-}
-
+// A heading after its `<h`.
 fn heading(page: &[u8], at: usize) -> Read
-    ensures { λ r. ⌜ Says block-form (now (page .entry)) at (read-heading (from (now (page .entry)) at)) r ⌝ }
+    ensures { λ r. ⌜ Says block-form (now (page .entry)) at (headed (from (now (page .entry)) at)) r ⌝ }
 {
-    if !text::starts_with(page, at, b"<h") {
-        return Read::No;
-    }
-    let c = text::code_at(page, at + 2);
+    let c = text::code_at(page, at);
     if !text::within(49, 54, c) {
         return Read::No;
     }
-    headed(page, at + 3, (c - 48) as u8)
-}
-
-fn paragraph(page: &[u8], at: usize) -> Read
-    ensures { λ r. ⌜ Says block-form (now (page .entry)) at (read-para (from (now (page .entry)) at)) r ⌝ }
-{
-    enclosed(page, at, b"<p>", b"</p>", 2)
+    let n = (c - 48) as u8;
+    if !text::starts_with(page, at + 1, b">") {
+        return Read::No;
+    }
+    let close = [60, 47, 104, 48 + n, 62];
+    closed_by(page, at + 2, &close, level(n) + 3)
 }
 
 // A block at `at`.
 fn block(page: &[u8], at: usize) -> Read
     ensures { λ r. ⌜ Says block-form (now (page .entry)) at (block (from (now (page .entry)) at)) r ⌝ }
 {
-    if let Read::At { next, count } = heading(page, at) {
-        return Read::At { next, count };
+    if text::starts_with(page, at, b"<h") {
+        return heading(page, at + 2);
     }
-    if let Read::At { next, count } = paragraph(page, at) {
-        return Read::At { next, count };
+    if text::starts_with(page, at, b"<p>") {
+        return closed_by(page, at + 3, b"</p>", 2);
     }
     let Read::At { next, count } = outermost(page, at) else {
         return Read::No;

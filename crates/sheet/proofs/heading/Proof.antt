@@ -1,39 +1,39 @@
 -- `sheet::heading` meets its contract.
 -- Assumes nothing.
-use mathlib.Core.Path.{_≡_, refl, sym, _∙_, ap}
-use Prim.Native.Nat.{ℕ, _+_, _-_}
+use mathlib.Core.Path.{_≡_, refl, _∙_, ap}
+use Prim.Native.Nat.{_+_, _-_, _≤_, _<_}
 use native.Mathlib.Omega.{arith}
 use borrow.Author.Tests.{not-true, not-false}
+use lib.ListN.{length}
 use Rattle.text.specs.Words.{str}
-use Rattle.sheet.specs.Says.{from}
-use Rattle.sheet.proofs.TestTags.{stands, missing}
-use Rattle.sheet.proofs.TestSays.{refuses}
 use Rattle.text.specs.Chars.{within}
 use Rattle.text.specs.Utf8.{code-at}
-use Rattle.sheet.specs.Reader.{read-heading}
+use Rattle.sheet.specs.Says.{from}
+use Rattle.sheet.specs.Reader.{headed}
 use Rattle.sheet.specs.Forms.{block-form}
-use Rattle.sheet.proofs.TestBlocks.{heading-1, heading-2, heading-3, heading-in}
+use Rattle.sheet.proofs.TestTags.{Stands, stands, missing}
+use Rattle.sheet.proofs.TestSays.{refuses}
+use Rattle.sheet.proofs.TestBlocks.{headed-1, headed-2, headed-3, heading-in, close-ascii}
 use borrow.Author.Needs.{needs}
 use Rattle.sheet.proofs.heading.Statement.{statement}
 use Rattle.sheet.proofs.heading.Tie as tie
 
-slice-aggregate-starts-with : tie.Need-slice-aggregate-starts-with
-slice-aggregate-starts-with c = search needs
+-- what was tested
+tested : (c : tie.After-within) → let a = c .before .before .before .args in c .within .result ≡ within 49 54 (code-at (a .page .now) (a .at))
+tested c = c .within .ensures ∙ ap (within 49 54) (c .before .code-at .ensures)
 
-starts-with-requires : tie.Need-starts-with-requires
-starts-with-requires c κs = search needs
-
-returns : tie.Need-returns
-returns c =
+-- the digit stands there
+digit : (c : tie.Else1) → let a = c .before .before .before .before .args in (49 ≤ c .before .before .code-at .result) × (c .before .before .code-at .result ≤ 54) × (a .at < length (a .page .now))
+digit c =
     let a = c .before .before .before .before .args in
-    refuses block-form (a .page .now) (a .at) (read-heading (from (a .page .now) (a .at)))
-    (heading-1 (a .page .now) (a .at) (missing (str "<h") (a .page .now) (a .at) refl (c .before .starts-with .ensures) (not-true (c .before .starts-with .result) (c .if1 .taken))))
+    let h = heading-in (a .page .now) (a .at) (tested (c .before)) (not-false (c .before .within .result) (c .if1 .left)) in
+    (omega (arith, c .before .before .code-at .ensures, h .0), omega (arith, c .before .before .code-at .ensures, h .1), h .2)
 
-add-code-at : tie.Need-add-code-at
-add-code-at c =
-    let a = c .before .before .before .before .args in
-    let o = (stands (str "<h") (a .page .now) (a .at) refl (c .before .starts-with .ensures) (not-false (c .before .starts-with .result) (c .if1 .left))) in
-    omega (arith, o .inside (omega arith))
+-- and the end of the tag
+opened : (c : tie.Else2) → let a = c .before .before .before .before .before .before .before .args in Stands (str ">") (a .page .now) (a .at + 1)
+opened c =
+    let a = c .before .before .before .before .before .before .before .args in
+    stands (str ">") (a .page .now) (a .at + 1) refl (c .before .starts-with .ensures) (not-false (c .before .starts-with .result) (c .if2 .left))
 
 code-at-requires : tie.Need-code-at-requires
 code-at-requires c κs = search needs
@@ -41,64 +41,75 @@ code-at-requires c κs = search needs
 within-requires : tie.Need-within-requires
 within-requires c κs = search needs
 
+returns : tie.Need-returns
+returns c =
+    let a = c .before .before .before .before .args in
+    refuses block-form (a .page .now) (a .at) (headed (from (a .page .now) (a .at)))
+    (headed-1 (a .page .now) (a .at) (tested (c .before)) (not-true (c .before .within .result) (c .if1 .taken)))
+
+sub-n : tie.Need-sub-n
+sub-n c = omega (arith, digit c)
+
+cast-n : tie.Need-cast-n
+cast-n c = omega (arith, digit c)
+
+add-starts-with : tie.Need-add-starts-with
+add-starts-with c = omega (arith, digit c)
+
+slice-aggregate-starts-with : tie.Need-slice-aggregate-starts-with
+slice-aggregate-starts-with c = search needs
+
+starts-with-requires : tie.Need-starts-with-requires
+starts-with-requires c κs = search needs
+
 returns-2 : tie.Need-returns-2
 returns-2 c =
     let a = c .before .before .before .before .before .before .before .args in
-    let o = (stands (str "<h") (a .page .now) (a .at) refl (c .before .before .before .before .starts-with .ensures) (not-false (c .before .before .before .before .starts-with .result) (c .before .before .before .if1 .left))) in
-    let e : c .before .within .result ≡ within 49 54 (code-at (a .page .now) (a .at + 2)) = c .before .within .ensures ∙ ap (within 49 54) (c .before .before .code-at .ensures) in
-    refuses block-form (a .page .now) (a .at) (read-heading (from (a .page .now) (a .at)))
-    (heading-2 (a .page .now) (a .at) (o .off) (sym e ∙ not-true (c .before .within .result) (c .if2 .taken)))
+    refuses block-form (a .page .now) (a .at) (headed (from (a .page .now) (a .at)))
+    (headed-2 (a .page .now) (a .at) (tested (c .before .before .before .before)) (not-false (c .before .before .before .before .within .result) (c .before .before .before .if1 .left)) (c .before .before .before .before .before .code-at .ensures)
+    (missing (str ">") (a .page .now) (a .at + 1) refl (c .before .starts-with .ensures) (not-true (c .before .starts-with .result) (c .if2 .taken))))
 
-add-headed : tie.Need-add-headed
-add-headed c =
-    let a = c .before .before .before .before .before .before .before .args in
-    let e : c .before .within .result ≡ within 49 54 (code-at (a .page .now) (a .at + 2)) = c .before .within .ensures ∙ ap (within 49 54) (c .before .before .code-at .ensures) in
-    let i = heading-in (a .page .now) (a .at + 2) e (not-false (c .before .within .result) (c .if2 .left)) in
-    omega arith
+add-t13 : tie.Need-add-t13
+add-t13 c = omega (arith, digit (c .before .before .before))
 
-sub-headed : tie.Need-sub-headed
-sub-headed c =
-    let a = c .before .before .before .before .before .before .before .args in
-    let e : c .before .within .result ≡ within 49 54 (code-at (a .page .now) (a .at + 2)) = c .before .within .ensures ∙ ap (within 49 54) (c .before .before .code-at .ensures) in
-    let i = heading-in (a .page .now) (a .at + 2) e (not-false (c .before .within .result) (c .if2 .left)) in
-    omega (arith, c .before .before .code-at .ensures)
+add-closed-by : tie.Need-add-closed-by
+add-closed-by c = omega (arith, opened c .inside (omega arith))
 
-cast-headed : tie.Need-cast-headed
-cast-headed c =
-    let a = c .before .before .before .before .before .before .before .args in
-    let e : c .before .within .result ≡ within 49 54 (code-at (a .page .now) (a .at + 2)) = c .before .within .ensures ∙ ap (within 49 54) (c .before .before .code-at .ensures) in
-    let i = heading-in (a .page .now) (a .at + 2) e (not-false (c .before .within .result) (c .if2 .left)) in
-    omega (arith, c .before .before .code-at .ensures)
+slice-aggregate-closed-by : tie.Need-slice-aggregate-closed-by
+slice-aggregate-closed-by c = search needs
 
-headed-requires : tie.Need-headed-requires
-headed-requires c κs =
-    let a = c .before .before .before .before .before .before .before .args in
-    let e : c .before .within .result ≡ within 49 54 (code-at (a .page .now) (a .at + 2)) = c .before .within .ensures ∙ ap (within 49 54) (c .before .before .code-at .ensures) in
-    let i = heading-in (a .page .now) (a .at + 2) e (not-false (c .before .within .result) (c .if2 .left)) in
-    omega (arith, c .before .before .code-at .ensures)
+level-requires : tie.Need-level-requires
+level-requires c κs = search needs
+
+add-closed-by-2 : tie.Need-add-closed-by-2
+add-closed-by-2 c = search needs
+
+closed-by-requires : tie.Need-closed-by-requires
+closed-by-requires c κs = close-ascii (c .before .before .before .before .before .before .before .code-at .result - 48) (omega (arith, digit (c .before .before .before .before .before)))
 
 returns-3 : tie.Need-returns-3
 returns-3 c =
-    let a = c .before .before .before .before .before .before .before .before .args in
-    let o = (stands (str "<h") (a .page .now) (a .at) refl (c .before .before .before .before .before .starts-with .ensures) (not-false (c .before .before .before .before .before .starts-with .result) (c .before .before .before .before .if1 .left))) in
-    let e : c .before .before .within .result ≡ within 49 54 (code-at (a .page .now) (a .at + 2)) = c .before .before .within .ensures ∙ ap (within 49 54) (c .before .before .before .code-at .ensures) in
-    heading-3 (a .page .now) (a .at) (o .off) (c .before .before .before .code-at .result - 48)
-    (ap (λ (k : ℕ). k - 48) (c .before .before .before .code-at .ensures))
-    (sym e ∙ (not-false (c .before .before .within .result) (c .before .if2 .left))) (c .headed .result) (c .headed .ensures)
+    let a = c .before .before .before .before .before .before .before .before .before .before .args in
+    headed-3 (a .page .now) (a .at) (tested (c .before .before .before .before .before .before .before)) (not-false (c .before .before .before .before .before .before .before .within .result) (c .before .before .before .before .before .before .if1 .left)) (c .before .before .before .before .before .before .before .before .code-at .ensures)
+    (opened (c .before .before .before) .off) (c .before .level .ensures) (c .closed-by .result) (c .closed-by .ensures)
 
 pub heading-spec : {M : Type 1} → statement M
 heading-spec =
     tie.close
     (tie.spec
-    slice-aggregate-starts-with
-    starts-with-requires
-    returns
-    add-code-at
     code-at-requires
     within-requires
+    returns
+    sub-n
+    cast-n
+    add-starts-with
+    slice-aggregate-starts-with
+    starts-with-requires
     returns-2
-    add-headed
-    sub-headed
-    cast-headed
-    headed-requires
+    add-t13
+    add-closed-by
+    slice-aggregate-closed-by
+    level-requires
+    add-closed-by-2
+    closed-by-requires
     returns-3)
