@@ -32,13 +32,13 @@ use crate::writer::put_heading;
 use crate::writer::put_item;
 use crate::writer::put_paragraph;
 
-// The open paragraph becomes a block.
+// The open paragraph becomes a block. Where none is open the state is made anew: a copy of the whole would copy the gaps between its fields, line by line.
 pub(crate) fn flush<'a>(markdown: &'a [u8], work: &'a [u8], out: &mut [u8], s: State) -> State
     requires { ⌜ Safe (now markdown) (now work) s × (s .at ≤ 300000000000) ⌝ }
     ensures { λ r. ⌜ Steps (now (markdown .entry)) (now (work .entry)) (now (work .entry)) (now (out .entry)) (now (out .exit)) s r 393221 0 ends ⌝ }
 {
     if s.from == s.to {
-        return s;
+        return State { at: s.at, ..s };
     }
     let text = text_of(markdown, work, s.copied, s.from, s.to);
     let p = put_paragraph(text, out, s);

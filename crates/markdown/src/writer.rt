@@ -17,17 +17,16 @@ use spans::Written;
 
 // Where the records end. Whether the last block is an item, and then its record's start and map byte, where its span count goes and how
 // many spans it has. The paragraph that is open: a part of the Markdown or of the work buffer, empty where none is open.
-// The fields of one byte stand last: a gap between fields is copied too, and a gap of seven bytes by two stores that overlap.
 pub struct State {
     pub at: usize,
+    pub item: bool,
     pub head: usize,
+    pub map: u8,
     pub fields: usize,
     pub count: usize,
+    pub copied: bool,
     pub from: usize,
     pub to: usize,
-    pub item: bool,
-    pub map: u8,
-    pub copied: bool,
 }
 
 impl State {
@@ -37,14 +36,14 @@ impl State {
     {
         Self {
             at: 0,
+            item: false,
             head: 0,
+            map: 0,
             fields: 0,
             count: 0,
+            copied: false,
             from: 0,
             to: 0,
-            item: false,
-            map: 0,
-            copied: false,
         }
     }
 }
