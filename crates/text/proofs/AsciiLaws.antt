@@ -5,7 +5,7 @@ use mathlib.Core.Bool.{Bool, true, false, _&&_}
 use mathlib.Core.List.{List, [], _∷_, _++_}
 use mathlib.Core.Logic.{⊎-elim}
 use mathlib.Core.Path.{_≡_, refl, sym, ap, _∙_}
-use borrow.Author.Tests.{eq-eqb, ne-eqb, ltb-true, ltb-false, lt-ltb, le-ltb, le-leb, eqb-true}
+use borrow.Author.Tests.{eq-eqb, ne-eqb, ltb-true, ltb-false, lt-ltb, le-leb, eqb-true}
 use native.Mathlib.Numerals.{add-one}
 use native.Mathlib.Omega.{arith}
 use lib.Dec.{ltb, eqb, eqb·suc-zero}
@@ -115,10 +115,6 @@ starts-nil (p ∷ ps) = sym (eqb·suc-zero (length ps))
 pub low-ascii : (x : ℕ) → x < 0x80 → is-ascii x ≡ true
 unfolding is-ascii
 low-ascii x h = lt-ltb x 0x80 h
-
-pub high-ascii : (x : ℕ) → 0x80 ≤ x → is-ascii x ≡ false
-unfolding is-ascii
-high-ascii x h = le-ltb x 0x80 h
 
 ascii-scalar : (x : ℕ) → x < 0x80 → is-scalar x ≡ true
 unfolding is-scalar

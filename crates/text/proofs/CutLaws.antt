@@ -44,13 +44,6 @@ take-cut n s =
     let e : encode (cut n (chars s)) ++ encode (p .0) ≡ s = sym (encode-append (cut n (chars s)) (p .0)) ∙ ap encode (sym (p .1)) ∙ encode-chars s in
     ap (take (length (encode (cut n (chars s))))) (sym e) ∙ take-append-seam (encode (cut n (chars s))) (encode (p .0))
 
--- what is cut has no more bytes
-pub cut-le : (n : ℕ) (s : List ℕ) → length (encode (cut n (chars s))) ≤ length s
-cut-le n s =
-    let p = cut-split n (chars s) in
-    let e : encode (cut n (chars s)) ++ encode (p .0) ≡ s = sym (encode-append (cut n (chars s)) (p .0)) ∙ ap encode (sym (p .1)) ∙ encode-chars s in
-    omega (arith, simp length-append at (ap length e))
-
 -- a text that is short enough stays whole
 pub cut-whole : (n : ℕ) (cs : List ℕ) → size cs ≤ n → cut n cs ≡ cs
 unfolding cut size

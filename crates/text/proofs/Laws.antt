@@ -440,22 +440,8 @@ code-is s i l = by (char (drop i s)) refl
     by Bad e = code-bad s i e
     by End e = let d = rw e at (sound (drop i s)) in absurd (omega (arith, ap length d, length-drop i s))
 
--- what stands at an offset, by the code there
-module _ (s : List ℕ) (i : ℕ) (l : i < length s) where
-  pub char-code-is : (code-at s i ≤ 0x10FFFF → char (drop i s) ≡ At (code-at s i) (length (utf8 (code-at s i)))) × (0x10FFFF < code-at s i → char (drop i s) ≡ Bad)
-  char-code-is = by (char (drop i s)) refl
-    where
-      by : (x : Char) → char (drop i s) ≡ x
-          → (code-at s i ≤ 0x10FFFF → x ≡ At (code-at s i) (length (utf8 (code-at s i)))) × (0x10FFFF < code-at s i → x ≡ Bad)
-      by (At c n) e =
-          let h = advance s i c n e in
-          let q = code-char s i c n e in
-          (λ _. rw (q, h .size), λ k. absurd (omega (arith, top c (h .scalar))))
-      by Bad e = let q = code-bad s i e in (λ k. absurd (omega arith), λ _. refl)
-      by End e = let d = rw e at (sound (drop i s)) in absurd (omega (arith, ap length d, length-drop i s))
-
-  pub size-code : size-of (char (drop i s)) ≡ length (utf8 (code-at s i))
-  size-code = let h = next-is s i l in sym (h .size) ∙ ap (λ (c : ℕ). length (utf8 c)) (sym (code-first s i (h .code) _ (h .rest)))
+pub size-code : (s : List ℕ) (i : ℕ) → i < length s → size-of (char (drop i s)) ≡ length (utf8 (code-at s i))
+size-code s i l = let h = next-is s i l in sym (h .size) ∙ ap (λ (c : ℕ). length (utf8 c)) (sym (code-first s i (h .code) _ (h .rest)))
 
 pub record Turn (s : List ℕ) (i c : ℕ) : Type 0 where
   pub low : 1 ≤ length (utf8 c)

@@ -172,20 +172,6 @@ pub fn code_at(s: &[u8], i: usize) -> u32
     code_or_stray(f.a, f.b, f.c, f.d)
 }
 
-// The character at i.
-pub fn read(s: &[u8], i: usize) -> Char
-    ensures { λ r. ⌜ r ≡ char (drop i (now (s .entry))) ⌝ }
-{
-    if s.len() <= i {
-        return Char::End;
-    }
-    let c = code_at(s, i);
-    if 0x10FFFF < c {
-        return Char::Bad;
-    }
-    Char::At(c, width(c))
-}
-
 // How many bytes the character at i has: 1 for a byte that starts none, 0 at the end.
 pub fn size_at(s: &[u8], i: usize) -> usize
     ensures { λ r. ⌜ r ≡ size-of (char (drop i (now (s .entry)))) ⌝ }
@@ -200,7 +186,7 @@ pub fn size_at(s: &[u8], i: usize) -> usize
 pub fn is_utf8(s: &[u8]) -> bool
     ensures { λ r. ⌜ r ≡ is-utf8 (now (s .entry)) ⌝ }
 {
-    let mut i = 0;
+    let mut i = ascii_blocks(s, 0);
     while i < s.len() {
         if s[i] < 0x80 {
             i += 1;

@@ -15,11 +15,9 @@ pub use classes::within;
 pub use decoding::byte;
 pub use decoding::code_at;
 pub use decoding::is_utf8;
-pub use decoding::read;
 pub use decoding::size_at;
 pub use encoding::put;
 pub use encoding::width;
-pub use parts::cut;
 pub use parts::cut_len;
 pub use parts::first;
 pub use parts::front;
@@ -30,8 +28,6 @@ pub use search::starts_with;
 pub use trimming::end_of;
 pub use trimming::start_of;
 pub use trimming::trim;
-pub use trimming::trim_end;
-pub use trimming::trim_start;
 
 // What stands at an offset of a byte slice.
 pub enum Char {

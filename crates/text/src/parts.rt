@@ -63,14 +63,6 @@ pub fn cut_len(s: &[u8], n: usize) -> usize
     cut_end(s, n)
 }
 
-// The first n bytes of s, fewer where a character would be split.
-pub fn cut(s: &[u8], n: usize) -> &[u8]
-    ensures { λ r. ⌜ now r ≡ encode (cut n (chars (now (s .entry)))) ⌝ }
-{
-    let e = cut_len(s, n);
-    &s[..e]
-}
-
 // The first n characters of s. Where no more bytes are left than characters may follow, all of s is taken.
 pub fn first(s: &[u8], n: usize) -> &[u8]
     ensures { λ r. ⌜ now r ≡ encode (take n (chars (now (s .entry)))) ⌝ }

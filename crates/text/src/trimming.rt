@@ -6,7 +6,7 @@ ghost use lib.Dec.{eqb};
 ghost use lib.ListN.{length, getD, drop};
 ghost use Rattle.text.specs.Chars.{within};
 ghost use Rattle.text.specs.Utf8.{chars, encode, char};
-ghost use Rattle.text.specs.Trim.{trim-start, trim-end, trim, start-of, end-of, wide-space, space-before};
+ghost use Rattle.text.specs.Trim.{trim, start-of, end-of, wide-space, space-before};
 use crate::classes::is_space;
 use crate::decoding::byte;
 use crate::decoding::is_tail;
@@ -108,22 +108,12 @@ pub fn end_of(s: &[u8]) -> usize
     e
 }
 
-pub fn trim_start(s: &[u8]) -> &[u8]
-    ensures { λ r. ⌜ now r ≡ encode (trim-start (chars (now (s .entry)))) ⌝ }
-{
-    let a = start_of(s);
-    &s[a..]
-}
-
-pub fn trim_end(s: &[u8]) -> &[u8]
-    ensures { λ r. ⌜ now r ≡ encode (trim-end (chars (now (s .entry)))) ⌝ }
-{
-    let e = end_of(s);
-    &s[..e]
-}
-
+// s without the spaces at its ends.
 pub fn trim(s: &[u8]) -> &[u8]
     ensures { λ r. ⌜ now r ≡ encode (trim (chars (now (s .entry)))) ⌝ }
 {
-    trim_end(trim_start(s))
+    let a = start_of(s);
+    let t = &s[a..];
+    let e = end_of(t);
+    &t[..e]
 }
