@@ -5,16 +5,15 @@ use mathlib.Core.Path.{_≡_, refl, sym, ap, subst, _∙_}
 use mathlib.Core.List.{List, [], _∷_}
 use lib.ListN.{length, drop}
 use Rattle.records.specs.Blocks.{Span}
-use Rattle.records.specs.Decode.{Parse, failed, parsed, span-at, spans-at, block-at}
-use Rattle.walker.specs.Readers.{rest, EndIs, end-parse, end-next, kind-of, kind-placed, HeadIs, head-placed, Found, WholeIs}
+use Rattle.records.specs.Decode.{Parse, failed, parsed, span-at, spans-at, head-at, block-at}
+use Rattle.walker.specs.Readers.{rest, EndIs, end-parse, end-next, kind-of, Found, WholeIs}
 use Rattle.walker.specs.declared.reader.Kind as K
-use Rattle.walker.specs.declared.reader.Head as H
-use Rattle.walker.specs.declared.reader.Head.the-variants as HV
 use Rattle.walker.specs.declared.reader.SpansEnd.{SpansEnd}
 use Rattle.walker.specs.declared.reader.SpansEnd.the-variants as E
 use Rattle.walker.specs.declared.reader.Whole.{Whole}
 use Rattle.walker.specs.declared.reader.Whole.the-variants as W
 use Rattle.records.proofs.Decoded.{not-failed, then-inv}
+use Rattle.walker.proofs.Heads.{Headed}
 
 rest-failed : {A : Type 0} (p : Parse A) → rest p ≡ failed → p ≡ failed
 rest-failed failed e = refl
@@ -24,38 +23,31 @@ rest-parsed : {A : Type 0} (p : Parse A) {q : List ℕ} → rest p ≡ parsed tt
 rest-parsed failed e = not-failed e
 rest-parsed (parsed a q) e = (a, cc)
 
-module _ (s : List ℕ) (at : ℕ) {h : H.Head} (w : HeadIs s at h) where
-  pub whole-none : h ≡ HV.Bad → block-at (drop at s) ≡ failed
+module _ (s : List ℕ) (at : ℕ) where
+  pub whole-none : head-at (drop at s) ≡ failed → block-at (drop at s) ≡ failed
   unfolding block-at
-  whole-none e = rw (w .read, e)
+  whole-none e = rw e
 
-  module _ {k : K.Kind} {n first : ℕ} (e : h ≡ HV.At k n first) where
-    head-stands : kind-placed s at k × (first ≤ length s)
-    head-stands = subst (head-placed s at) e (w .placed)
-
-    pub head-starts : first ≤ length s
-    head-starts = head-stands .1
+  module _ {k : K.Kind} {n first : ℕ} (w : Headed s at k n first) {r : SpansEnd} (x : EndIs (spans-at n (drop first s)) s r) where
+    pub whole-cut : r ≡ E.Bad → block-at (drop at s) ≡ failed
+    unfolding block-at
+    whole-cut f = rw (w .read, rest-failed (spans-at n (drop first s)) (x .read ∙ ap (end-parse s) f))
 
     whole-block : {xs : List Span} {q : List ℕ} → spans-at n (drop first s) ≡ parsed xs q → block-at (drop at s) ≡ parsed (record { kind = kind-of s k; spans = xs }) q
     unfolding block-at
-    whole-block p = rw (w .read, e, p)
+    whole-block p = rw (w .read, p)
 
-    module _ {r : SpansEnd} (x : EndIs (spans-at n (drop first s)) s r) where
-      pub whole-cut : r ≡ E.Bad → block-at (drop at s) ≡ failed
-      unfolding block-at
-      whole-cut f = rw (w .read, e, rest-failed (spans-at n (drop first s)) (x .read ∙ ap (end-parse s) f))
-
-      pub whole-is : {next : ℕ} → r ≡ E.At next → Found s at k n first next
-      whole-is {next} f =
-          let (xs, p) = rest-parsed (spans-at n (drop first s)) (x .read ∙ ap (end-parse s) f) in
-          record {
-            xs = xs;
-            spans = p;
-            block = whole-block p;
-            placed = head-stands .0;
-            starts = head-stands .1;
-            within = subst (λ (r : SpansEnd). end-next r ≤ length s) f (x .within);
-          }
+    pub whole-is : {next : ℕ} → r ≡ E.At next → Found s at k n first next
+    whole-is {next} f =
+        let (xs, p) = rest-parsed (spans-at n (drop first s)) (x .read ∙ ap (end-parse s) f) in
+        record {
+          xs = xs;
+          spans = p;
+          block = whole-block p;
+          placed = w .placed;
+          starts = w .within;
+          within = subst (λ (r : SpansEnd). end-next r ≤ length s) f (x .within);
+        }
 
 -- what a callee's answer says, once its case is known
 pub whole-bad : (s : List ℕ) (at : ℕ) {r : Whole} → WholeIs s at r → r ≡ W.Bad → block-at (drop at s) ≡ failed

@@ -12,16 +12,15 @@ use Rattle.records.specs.Blocks.{Kind}
 use Rattle.text.specs.Utf8.{size, chars}
 use Rattle.text.proofs.Lists.{drop-next}
 use Rattle.records.specs.Format.{is-marker}
-use Rattle.records.specs.Decode.{Parse, u16, u32, level-at, marker-at, item-at, kind-at, count-at, head-at, parsed}
+use Rattle.records.specs.Decode.{Parse, u16, u32, level-at, marker-at, item-at, kind-at, count-at, head-at, failed, parsed}
 use Rattle.text.specs.Part.{between}
-use Rattle.walker.specs.Readers.{NumberIs, Within, KindIs, kind-of, kind-ended, kind-parse, kind-read-placed, kind-placed, HeadIs}
+use Rattle.walker.specs.Readers.{NumberIs, Within, KindIs, kind-of, kind-ended, kind-parse, kind-read-placed, kind-placed}
 use Rattle.walker.specs.declared.fields.Number.{Number}
 use Rattle.walker.specs.declared.fields.Number.the-variants.{Value, Bad}
 use Rattle.walker.specs.declared.reader.Kind as K
 use Rattle.walker.specs.declared.reader.Kind.the-variants as KV
 use Rattle.walker.specs.declared.reader.KindRead.{KindRead}
 use Rattle.walker.specs.declared.reader.KindRead.the-variants as KR
-use Rattle.walker.specs.declared.reader.Head.the-variants as H
 use Rattle.walker.proofs.Spans.{number-bad, number-read, number-within, part-short, part-is, between-size}
 use Rattle.walker.proofs.Placed.{after-length, kind-ends}
 
@@ -132,25 +131,35 @@ module _ (s : List ℕ) (at b : ℕ) (h : at < length s) {next : ℕ} (l : next 
       let a = after-length (kind-ends 0 b (drop (at + 1) s) p .after) in
       (w, omega (arith, length-drop (at + 1) s, length-drop next s))
 
-pub head-end : (s : List ℕ) (at : ℕ) → length s ≤ at → HeadIs s at H.Bad
+-- what stands before the spans, in a block at an offset
+pub record Headed (s : List ℕ) (at : ℕ) (k : K.Kind) (n first : ℕ) : Type 0 where
+  pub read : head-at (drop at s) ≡ parsed (record { kind = kind-of s k; count = n }) (drop first s)
+  pub placed : kind-placed s at k
+  pub within : first ≤ length s
+
+pub head-end : (s : List ℕ) (at : ℕ) → length s ≤ at → head-at (drop at s) ≡ failed
 unfolding head-at
-head-end s at h = record { read = rw (drop-of-length-le s h); placed = tt }
+head-end s at h = rw (drop-of-length-le s h)
 
 module _ (s : List ℕ) (at : ℕ) (h : at < length s) where
-  pub head-high : 16 ≤ getD s at 0 → HeadIs s at H.Bad
+  pub head-high : 16 ≤ getD s at 0 → head-at (drop at s) ≡ failed
   unfolding head-at
-  head-high l = record { read = rw (drop-next s at h, le-ltb (getD s at 0) 16 l); placed = tt }
+  head-high l = rw (drop-next s at h, le-ltb (getD s at 0) 16 l)
 
   module _ (hi : getD s at 0 < 16) {k : KindRead} (w : KindIs (kind-at (getD s at 0 % 8) (drop (at + 1) s)) s k) where
-    pub head-none : k ≡ KR.Bad → HeadIs s at H.Bad
+    pub head-none : k ≡ KR.Bad → head-at (drop at s) ≡ failed
     unfolding head-at
-    head-none e = record { read = rw (drop-next s at h, lt-ltb (getD s at 0) 16 hi, w .read, e); placed = tt }
+    head-none e = rw (drop-next s at h, lt-ltb (getD s at 0) 16 hi, w .read, e)
 
     module _ {kind : K.Kind} {next : ℕ} (e : k ≡ KR.At kind next) {r : Number} (x : NumberIs (count-at (leb 8 (getD s at 0)) (drop next s)) s r) where
-      pub head-uncounted : r ≡ Bad → HeadIs s at H.Bad
+      pub head-uncounted : r ≡ Bad → head-at (drop at s) ≡ failed
       unfolding head-at
-      head-uncounted f = record { read = rw (drop-next s at h, lt-ltb (getD s at 0) 16 hi, w .read, e, number-bad x f); placed = tt }
+      head-uncounted f = rw (drop-next s at h, lt-ltb (getD s at 0) 16 hi, w .read, e, number-bad x f)
 
-      pub head-is : {n first : ℕ} → r ≡ Value n first → HeadIs s at (H.At kind n first)
+      pub head-is : {n first : ℕ} → r ≡ Value n first → Headed s at kind n first
       unfolding head-at
-      head-is f = record { read = rw (drop-next s at h, lt-ltb (getD s at 0) 16 hi, w .read, e, number-read x f); placed = (kind-stands s at (getD s at 0 % 8) h (kind-within w e) kind (w .read ∙ ap (kind-parse s) e) (subst (kind-read-placed s) e (w .placed) .0), number-within x f) }
+      head-is f = record {
+        read = rw (drop-next s at h, lt-ltb (getD s at 0) 16 hi, w .read, e, number-read x f);
+        placed = kind-stands s at (getD s at 0 % 8) h (kind-within w e) kind (w .read ∙ ap (kind-parse s) e) (subst (kind-read-placed s) e (w .placed) .0);
+        within = number-within x f;
+      }

@@ -8,7 +8,7 @@ use lib.ListN.{length, drop}
 use lib.Dec.{eqb}
 use Rattle.text.specs.Utf8.{chars}
 use Rattle.records.specs.Blocks.{Span, Kind, heading, paragraph, item}
-use Rattle.records.specs.Decode.{Parse, failed, parsed, Head, spans-at, head-at, block-at}
+use Rattle.records.specs.Decode.{Parse, failed, parsed, spans-at, block-at}
 use Rattle.walker.specs.Answers.{Answer, at-end, refused, gives, span-in}
 use Rattle.walker.specs.Places.{nowhere, marker-from, text-place}
 use Rattle.walker.specs.declared.fields.Number.{Number}
@@ -23,8 +23,6 @@ use Rattle.walker.specs.declared.reader.Kind as K
 use Rattle.walker.specs.declared.reader.Kind.the-variants as KV
 use Rattle.walker.specs.declared.reader.KindRead.{KindRead}
 use Rattle.walker.specs.declared.reader.KindRead.the-variants as KR
-use Rattle.walker.specs.declared.reader.Head as H
-use Rattle.walker.specs.declared.reader.Head.the-variants as HV
 use Rattle.walker.specs.declared.reader.Whole.{Whole}
 use Rattle.walker.specs.declared.reader.Whole.the-variants as W
 use Rattle.walker.specs.declared.Range.{Range}
@@ -119,23 +117,11 @@ pub record KindIs (p : Parse Kind) (s : List ℕ) (r : KindRead) : Type 0 where
   pub read : p ≡ kind-parse s r
   pub placed : kind-read-placed s r
 
--- what stands before the spans, in a block at an offset
+-- the same, in a block at an offset
 abbrev pub kind-placed : List ℕ → ℕ → K.Kind → Type 0
 kind-placed s at (KV.Heading l) = Unit {0}
 kind-placed s at KV.Paragraph = Unit {0}
 kind-placed s at (KV.Item d start end) = Within s start end × (start ≡ at + marker-from d)
-
-abbrev pub head-parse : List ℕ → H.Head → Parse Head
-head-parse s (HV.At k n first) = parsed (record { kind = kind-of s k; count = n }) (drop first s)
-head-parse s HV.Bad = failed
-
-abbrev pub head-placed : List ℕ → ℕ → H.Head → Type 0
-head-placed s at (HV.At k n first) = kind-placed s at k × (first ≤ length s)
-head-placed s at HV.Bad = Unit {0}
-
-pub record HeadIs (s : List ℕ) (at : ℕ) (r : H.Head) : Type 0 where
-  pub read : head-at (drop at s) ≡ head-parse s r
-  pub placed : head-placed s at r
 
 -- a whole block, whose spans xs start at first
 pub record Found (s : List ℕ) (at : ℕ) (k : K.Kind) (n first next : ℕ) : Type 0 where

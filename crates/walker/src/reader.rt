@@ -3,7 +3,7 @@ ghost use mathlib.Core.Path.{_≡_};
 ghost use Prim.Native.Nat.{_≤_};
 ghost use lib.ListN.{length, drop};
 ghost use Rattle.records.specs.Decode.{text-at, span-at, spans-at, level-at, marker-at, item-at, kind-at, count-at};
-ghost use Rattle.walker.specs.Readers.{NumberIs, PartIs, SpanIs, span-with, EndIs, KindIs, HeadIs, WholeIs};
+ghost use Rattle.walker.specs.Readers.{NumberIs, PartIs, SpanIs, span-with, EndIs, KindIs, WholeIs};
 use crate::fields::Number;
 use crate::fields::is_marker;
 use crate::fields::u16_at;
@@ -228,39 +228,6 @@ fn count_at(s: &[u8], at: usize, counted: bool) -> Number
     }
 }
 
-// What stands before a block's spans, and where they start.
-enum Head {
-    At {
-        kind: Kind,
-        count: usize,
-        first: usize,
-    },
-    Bad,
-}
-
-fn head_at(s: &[u8], at: usize) -> Head
-    ensures { λ r. ⌜ HeadIs (now (s .entry)) at r ⌝ }
-{
-    if s.len() <= at {
-        return Head::Bad;
-    }
-    let m = s[at];
-    if 16 <= m {
-        return Head::Bad;
-    }
-    let KindRead::At { kind, next } = kind_at(s, at + 1, m % 8) else {
-        return Head::Bad;
-    };
-    let Number::Value {
-        value: count,
-        next: first,
-    } = count_at(s, next, 8 <= m)
-    else {
-        return Head::Bad;
-    };
-    Head::At { kind, count, first }
-}
-
 // A whole block: its kind, its span count, where its spans start, and where the next block starts.
 pub(crate) enum Whole {
     At {
@@ -275,7 +242,21 @@ pub(crate) enum Whole {
 pub(crate) fn whole_at(s: &[u8], at: usize) -> Whole
     ensures { λ r. ⌜ WholeIs (now (s .entry)) at r ⌝ }
 {
-    let Head::At { kind, count, first } = head_at(s, at) else {
+    if s.len() <= at {
+        return Whole::Bad;
+    }
+    let m = s[at];
+    if 16 <= m {
+        return Whole::Bad;
+    }
+    let KindRead::At { kind, next: fields } = kind_at(s, at + 1, m % 8) else {
+        return Whole::Bad;
+    };
+    let Number::Value {
+        value: count,
+        next: first,
+    } = count_at(s, fields, 8 <= m)
+    else {
         return Whole::Bad;
     };
     let SpansEnd::At { next } = spans_end(s, first, count) else {
