@@ -4,7 +4,7 @@ use Prim.Native.Nat.{ℕ, _+_, _-_, _*_, _≤_, _<_}
 use native.Mathlib.Omega.{arith}
 use native.Mathlib.Numerals.{add-one}
 use mathlib.Core.Path.{_≡_, refl, sym, ap, _∙_, subst}
-use mathlib.Core.Bool.{Bool, true, false, not, _&&_, _||_, or-false}
+use mathlib.Core.Bool.{Bool, true, false, not, _&&_, _||_, or-false, and-comm}
 use mathlib.Core.Logic.{inl, ⊎-elim}
 use mathlib.Core.Option.{Option, none, some}
 use mathlib.Core.List.{List, [], _∷_, _++_, reverseAux}
@@ -18,7 +18,6 @@ use Rattle.text.specs.Trim.{trim-start}
 use Rattle.text.specs.Utf8.{Scalars, utf8, size, chars, code-at}
 use Rattle.text.proofs.Tests.{decide, on, false-true, or-elim, or-neither, and-true, and-false}
 use Rattle.text.proofs.Utf8.{utf8-1}
-use Rattle.text.proofs.AsciiLaws.{chars-ascii}
 use Rattle.text.proofs.Laws.{turn-is, utf8-size, advance-end, advance-ascii, scalars-drop}
 use Rattle.text.proofs.TrimLaws.{space-ascii, start-space, start-other}
 use Rattle.text.proofs.Lists.{same-last}
@@ -98,11 +97,14 @@ module _ (first : Bool) (x : ℕ) (s : State) (o : List ℕ) (sp : Bool) where
   unfolding put
   write-escaped e = sym (ap (put first x) (spaced-with s o sp) ∙ rw e)
 
-pub unescaped-pre : (t p : Bool) → p ≡ true → t && not p ≡ false
+unescaped-pre : (t p : Bool) → p ≡ true → t && not p ≡ false
 unescaped-pre true p e = rw e
 unescaped-pre false p e = refl
 
-pub escaped-out : (t u p : Bool) → p ≡ false → u ≡ t → t && not p ≡ u
+pub tested : (t r p q : Bool) → q ≡ p → r ≡ t → t && not q ≡ not p && r
+tested t r p q e f = rw (e, f) (and-comm t (not p))
+
+escaped-out : (t u p : Bool) → p ≡ false → u ≡ t → t && not p ≡ u
 escaped-out true u p e f = rw e (sym f)
 escaped-out false u p e f = sym f
 
@@ -469,16 +471,33 @@ module _ (b : ℕ) (h : special b ≡ true) where
       let n : (k : ℕ) → P k → eqb b k ≡ true → P b = λ k x e. subst P (sym (eqb-true b k e)) x in
       or-elim (eqb b 92) _ (n 92 p) (or-elim (eqb b 42) _ (n 42 q) (or-elim (eqb b 96) _ (n 96 r) (or-elim (eqb b 91) _ (n 91 s) (or-elim (eqb b 33) false (n 33 t) false-true)))) h
 
-  pub special-ascii : b < 0x80
-  special-ascii = one-of (λ k. k < 0x80) (omega arith) (omega arith) (omega arith) (omega arith) (omega arith)
-
-  pub special-not-and : b ≡ 38 → ⊥
-  special-not-and = one-of (λ k. k ≡ 38 → ⊥) (λ q. omega arith) (λ q. omega arith) (λ q. omega arith) (λ q. omega arith) (λ q. omega arith)
-
   pub special-not-blank : (pre : Bool) → blank pre b ≡ false
   unfolding blank is-space
   special-not-blank pre = and-false (not pre) (is-space b) (one-of (λ k. is-space k ≡ false) refl refl refl refl refl)
 
-  pub special-write : (first : Bool) (s : State) (o : List ℕ) (sp : Bool) → s .pre ≡ false
+  special-write : (first : Bool) (s : State) (o : List ℕ) (sp : Bool) → s .pre ≡ false
       → with-out (b ∷ 92 ∷ with-space sp o) false s ≡ put first b (spaced (with-out o sp s))
   special-write first s o sp e = write-escaped first b s o sp (escaped-out _ true (s .pre) e (escape-special first b (with-space sp o) h))
+
+-- ---- an ASCII character that is written as it is, and another one behind a backslash
+module _ (s : State) (p q : Pen) (w v : List ℕ) (e : pen-state s q v ≡ with-out (92 ∷ with-space (p .space) (out-of (p .len) w)) false s) where
+  bare-out : out-of (q .len) v ≡ 92 ∷ with-space (p .space) (out-of (p .len) w)
+  unfolding pen-state
+  bare-out = ap (λ (c : State). c .out) e
+
+  pub bare-len : q .len ≡ p .len + pending (p .space) + 1
+  unfolding size
+  bare-len = sym (size-out (q .len) v) ∙ ap size bare-out ∙ go (p .space)
+    where
+      go : (sp : Bool) → size (92 ∷ with-space sp (out-of (p .len) w)) ≡ p .len + pending sp + 1
+      go true = omega (arith, size-out (p .len) w, ap length (utf8-1 92 (omega arith)), ap length (utf8-1 32 (omega arith)))
+      go false = omega (arith, size-out (p .len) w, ap length (utf8-1 92 (omega arith)))
+
+  pub special-two : (b : ℕ) → special b ≡ true → s .pre ≡ false → (r : Pen) (u : List ℕ) → pen-state s r u ≡ with-out (b ∷ with-space (q .space) (out-of (q .len) v)) false s
+      → pen-state s r u ≡ put (p .first) b (spaced (pen-state s p w))
+  unfolding pen-state
+  special-two b h n r u f =
+      f
+      ∙ ap (λ (t : Bool). with-out (b ∷ with-space t (out-of (q .len) v)) false s) (ap (λ (c : State). c .space) e)
+      ∙ ap (λ (o : List ℕ). with-out (b ∷ o) false s) bare-out
+      ∙ special-write b h (p .first) s (out-of (p .len) w) (p .space) n

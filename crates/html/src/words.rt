@@ -11,7 +11,7 @@ ghost use mathlib.Core.Path.{_≡_};
 ghost use Prim.Native.Nat.{ℕ, _+_, _-_, _*_, _≤_, _<_};
 ghost use mathlib.Core.List.{List, _∷_};
 ghost use mathlib.Core.Bool.{true, false};
-ghost use lib.ListN.{length, getD, drop};
+ghost use lib.ListN.{length, drop};
 ghost use Rattle.text.specs.Trim.{trim-start};
 ghost use Rattle.text.specs.Utf8.{IsScalar, Scalars, utf8, chars, code-at};
 ghost use Rattle.html.specs.State.{State, with-out, special, opens, escape, blank, paused, put-all, text};
@@ -142,16 +142,8 @@ impl Pen {
         ensures { λ r. ⌜ ((s : State) → s .pre ≡ pre → pen-state s r (now (out .exit)) ≡ state.put (self .first) c (state.spaced (pen-state s self (now (out .entry))))) × (r .first ≡ false) ⌝ }
     {
         let n = spaced(out, self.len, self.space);
-        if pre {
-            let m = put_char(out, n, c);
-            return Pen {
-                len: m,
-                space: false,
-                first: false,
-            };
-        }
-        if escapes(out, n, c, self.first) {
-            let k = put_char(out, n, 92);
+        if !pre & escapes(out, n, c, self.first) {
+            let k = push(out, n, b'\\');
             let m = put_char(out, k, c);
             return Pen {
                 len: m,
@@ -174,21 +166,6 @@ impl Pen {
     {
         let n = spaced(out, self.len, self.space);
         let m = push(out, n, b);
-        Pen {
-            len: m,
-            space: false,
-            first: false,
-        }
-    }
-
-    // A character that is escaped wherever it stands.
-    fn escaped(self, out: &mut [u8], b: u8) -> Pen
-        requires { ⌜ (self .len + 3 ≤ length (now out)) × (special b ≡ true) ⌝ }
-        ensures { λ r. ⌜ ((s : State) → s .pre ≡ false → pen-state s r (now (out .exit)) ≡ state.put (self .first) b (state.spaced (pen-state s self (now (out .entry))))) × (r .first ≡ false) ⌝ }
-    {
-        let n = spaced(out, self.len, self.space);
-        let k = push(out, n, b'\\');
-        let m = push(out, k, b);
         Pen {
             len: m,
             space: false,
@@ -290,7 +267,8 @@ fn run(pen: Pen, out: &mut [u8], raw: &[u8], from: usize, pre: bool) -> Inked
             return Inked { pen: p, next: i };
         }
         if special(b as u32) {
-            p = p.escaped(out, b);
+            let q = p.bare(out, b'\\');
+            p = q.bare(out, b);
             i += 1;
             continue;
         }

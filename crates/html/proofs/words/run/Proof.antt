@@ -7,7 +7,7 @@ use Prim.Native.Nat.{ℕ, _+_, _-_, _*_, _≤_, _<_}
 use mathlib.Core.Bool.{Bool, true, false}
 use mathlib.Core.List.{List}
 use lib.ListN.{length, getD, drop}
-use Rattle.text.specs.Utf8.{Scalars, utf8, chars}
+use Rattle.text.specs.Utf8.{utf8, chars}
 use Rattle.text.proofs.Laws.{utf8-size}
 use Rattle.reference.specs.Unescape.{unescape}
 use Rattle.html.specs.State.{State, new, with-pre, put, put-all, spaced, blank, paused}
@@ -15,7 +15,7 @@ use Rattle.html.specs.Struct.{pending}
 use Rattle.html.specs.Pen.{pen-state, plain, Unescaped, Behind, Inking}
 use Rattle.html.specs.declared.words.Pen.{Pen}
 use Rattle.html.specs.declared.words.Piece.{Piece}
-use Rattle.html.proofs.TextLaws.{ink-room, ink-pause, ink-write, behind-put, behind-pause, piece, piece-ascii, plain-ascii, plain-not-and, plain-not-blank, plain-write, other-outside, other-blank, special-ascii, special-not-and, special-not-blank}
+use Rattle.html.proofs.TextLaws.{ink-room, ink-pause, ink-write, behind-put, behind-pause, piece, piece-ascii, plain-ascii, plain-not-and, plain-not-blank, plain-write, other-outside, other-blank, special-not-blank, bare-len, special-two}
 use borrow.Author.Needs.{needs}
 use Rattle.html.proofs.words.run.Statement.{statement}
 use Rattle.html.proofs.words.run.Tie as tie
@@ -167,24 +167,30 @@ cast-special c = search needs
 special-requires : tie.Need-special-requires Inv-loop μ-loop
 special-requires c κs = search needs
 
-escaped-requires : tie.Need-escaped-requires Inv-loop μ-loop
-escaped-requires c κs =
-    let z = sym (c .before .before .special .ensures) ∙ c .before .if5 .taken in
-    (omega (arith, roomy (c .before .before .before .before .before .before .before .before .before) _ (ascii (c .before .before .before .before .before .before .before .before .before) (c .before .before .before .before .before .before .before .before .loop-test .taken) (c .before .before .before .before .if2 .left) (c .before .before .before .if4 .left)), utf8-size (at-of (c .before .before .before .before .before .before .before .before .before)) .0), z)
+bare-requires-2 : tie.Need-bare-requires-2 Inv-loop μ-loop
+bare-requires-2 c κs =
+    (omega (arith, roomy (c .before .before .before .before .before .before .before .before .before) _ (ascii (c .before .before .before .before .before .before .before .before .before) (c .before .before .before .before .before .before .before .before .loop-test .taken) (c .before .before .before .before .if2 .left) (c .before .before .before .if4 .left)), utf8-size (at-of (c .before .before .before .before .before .before .before .before .before)) .0), omega arith)
+
+bare-requires-3 : tie.Need-bare-requires-3 Inv-loop μ-loop
+bare-requires-3 c κs =
+    let h = c .before .before .before .before .before .before .before .before .before .before .before .before .before in
+    let k = bare-len (any h) (h .loop .p) (c .before .before .before .bare2 .result) (h .loop .out) _ (c .before .before .before .bare2 .ensures .0 (any h)) in
+    (omega (arith, k, held h .room, c .before .before .before .before .before .before .before .before .before .before .before .before .loop-test .taken, h .loop .inv .1 .1 .0, c .before .before .before .before .before .before .before .before .before .before .before .before .before .before .before .before .pre .0 .1 .1), c .before .before .before .before .before .before .before .before .if2 .left)
 
 add-i-2 : tie.Need-add-i-2 Inv-loop μ-loop
-add-i-2 c = omega (arith, c .before .before .before .before .before .before .before .before .before .before .before .loop-test .taken, c .before .before .before .before .before .before .before .before .before .before .before .before .before .before .before .good)
+add-i-2 c = omega (arith, c .before .before .before .before .before .before .before .before .before .before .before .before .before .before .before .loop-test .taken, c .before .before .before .before .before .before .before .before .before .before .before .before .before .before .before .before .before .before .before .good)
 
 loop-less-4 : tie.Need-loop-less-4 Inv-loop μ-loop
-loop-less-4 c = omega (arith, c .before .before .before .before .before .before .before .before .before .before .before .loop-test .taken)
+loop-less-4 c = omega (arith, c .before .before .before .before .before .before .before .before .before .before .before .before .before .before .before .loop-test .taken)
 
 loop-again-4 : tie.Need-loop-again-4 Inv-loop μ-loop
 unfolding Now
 loop-again-4 c =
-    let h = c .before .before .before .before .before .before .before .before .before .before .before .before in
-    let z = sym (c .before .before .before .before .before .special .ensures) ∙ c .before .before .before .before .if5 .taken in
-    let q = other-outside (at-of h) (pre-of h) (sym (c .before .before .before .before .before .before .before .before .before .plain .ensures) ∙ c .before .before .before .before .before .before .before .before .if1 .left) (c .before .before .before .before .before .before .before .if2 .left) (c .before .before .before .before .before .before .if4 .left) .0 in
-    wrote h _ (ascii h (c .before .before .before .before .before .before .before .before .before .before .before .loop-test .taken) (c .before .before .before .before .before .before .before .if2 .left) (c .before .before .before .before .before .before .if4 .left)) (c .before .before .escaped .result) _ (special-not-blank (at-of h) z (pre-of h)) (λ s e. c .before .before .escaped .ensures .0 s (e ∙ q)) (c .before .before .escaped .ensures .1) (search needs)
+    let h = c .before .before .before .before .before .before .before .before .before .before .before .before .before .before .before .before in
+    let z = sym (c .before .before .before .before .before .before .before .before .before .special .ensures) ∙ c .before .before .before .before .before .before .before .before .if5 .taken in
+    let n = other-outside (at-of h) (pre-of h) (sym (c .before .before .before .before .before .before .before .before .before .before .before .before .before .plain .ensures) ∙ c .before .before .before .before .before .before .before .before .before .before .before .before .if1 .left) (c .before .before .before .before .before .before .before .before .before .before .before .if2 .left) (c .before .before .before .before .before .before .before .before .before .before .if4 .left) .0 in
+    wrote h _ (ascii h (c .before .before .before .before .before .before .before .before .before .before .before .before .before .before .before .loop-test .taken) (c .before .before .before .before .before .before .before .before .before .before .before .if2 .left) (c .before .before .before .before .before .before .before .before .before .before .if4 .left)) (c .before .before .bare3 .result) _ (special-not-blank (at-of h) z (pre-of h))
+    (λ s e. special-two s (h .loop .p) (c .before .before .before .before .before .before .bare2 .result) (h .loop .out) _ (c .before .before .before .before .before .before .bare2 .ensures .0 s) (at-of h) z (e ∙ n) (c .before .before .bare3 .result) _ (c .before .before .bare3 .ensures .0 s)) (c .before .before .bare3 .ensures .1) (search needs)
 
 pause-requires-2 : tie.Need-pause-requires-2 Inv-loop μ-loop
 pause-requires-2 c κs = omega (arith, roomy (c .before .before .before .before .before .before .before .before .before) _ (ascii (c .before .before .before .before .before .before .before .before .before) (c .before .before .before .before .before .before .before .before .loop-test .taken) (c .before .before .before .before .if2 .left) (c .before .before .before .if4 .left)))
@@ -209,4 +215,4 @@ returns-2 : tie.Need-returns-2 Inv-loop μ-loop
 returns-2 c = (c .before .loop .inv .0, c .before .loop .inv .1 .1 .1)
 
 pub run-spec : {M : Type 1} → statement M
-run-spec = tie.close (tie.spec Inv-loop μ-loop loop-holds shared-slice-read-b plain-requires bare-requires add-i loop-less loop-again above-ascii-requires blank-requires pause-requires loop-less-2 loop-again-2 high-requires loop-less-3 loop-again-3 same-length returns cast-special special-requires escaped-requires add-i-2 loop-less-4 loop-again-4 pause-requires-2 add-i-3 loop-less-5 loop-again-5 same-length-2 returns-2)
+run-spec = tie.close (tie.spec Inv-loop μ-loop loop-holds shared-slice-read-b plain-requires bare-requires add-i loop-less loop-again above-ascii-requires blank-requires pause-requires loop-less-2 loop-again-2 high-requires loop-less-3 loop-again-3 same-length returns cast-special special-requires bare-requires-2 bare-requires-3 add-i-2 loop-less-4 loop-again-4 pause-requires-2 add-i-3 loop-less-5 loop-again-5 same-length-2 returns-2)
