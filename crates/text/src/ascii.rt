@@ -20,28 +20,54 @@ fn is_ascii_block(s: &[u8], i: usize) -> bool
     ascii
 }
 
-// Where the blocks of 32 ASCII bytes from i on end.
+// Whether the 8 bytes from i on are ASCII, tested as one word.
+fn is_ascii_word(s: &[u8], i: usize) -> bool
+    requires { ⌜ i + 8 ≤ length (now s) ⌝ }
+    ensures { λ r. ⌜ r ≡ all is-ascii (take 8 (drop i (now (s .entry)))) ⌝ }
+{
+    let mut ascii = true;
+    let mut k = 0;
+    while k < 8 {
+        ascii = ascii & (s[i + k] < 0x80);
+        k += 1;
+    }
+    ascii
+}
+
+// Where the blocks of 32 ASCII bytes from i on end, and the words of 8 behind them. A first word is tested alone: most runs are short.
 pub(crate) fn ascii_blocks(s: &[u8], i: usize) -> usize
     requires { ⌜ i ≤ length (now s) ⌝ }
     ensures { λ r. ⌜ RunTo is-ascii (now (s .entry)) i r ⌝ }
 {
+    if s.len() - i < 8 {
+        return i;
+    }
+    if !is_ascii_word(s, i) {
+        return i;
+    }
     let mut j = i;
     while 32 <= s.len() - j {
         if !is_ascii_block(s, j) {
-            return j;
+            break;
         }
         j += 32;
+    }
+    while 8 <= s.len() - j {
+        if !is_ascii_word(s, j) {
+            return j;
+        }
+        j += 8;
     }
     j
 }
 
-// An offset after i up to which all is ASCII, as the byte at i is. Blocks are tried only from multiples of 32 on, so that a short run costs little.
+// An offset after i up to which all is ASCII, as the byte at i is. Blocks are tried only from multiples of 8 on, so that a short run costs little.
 pub(crate) fn past_ascii(s: &[u8], i: usize) -> usize
     requires { ⌜ (i < length (now s)) × (getD (now s) i 0 < 0x80) ⌝ }
     ensures { λ r. ⌜ RunTo is-ascii (now (s .entry)) i r × (i < r) ⌝ }
 {
     let j = i + 1;
-    if j % 32 != 0 {
+    if j % 8 != 0 {
         return j;
     }
     ascii_blocks(s, j)

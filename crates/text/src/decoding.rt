@@ -190,7 +190,7 @@ pub fn is_utf8(s: &[u8]) -> bool
     while i < s.len() {
         if s[i] < 0x80 {
             i += 1;
-            if i % 32 == 0 {
+            if i % 8 == 0 {
                 i = ascii_blocks(s, i);
             }
             continue;
