@@ -20,10 +20,11 @@ const MARKDOWN: [&str; 58] = [
     "abcdefgh", "  ", "\n\n", "- a\n", "  b\n", "The relay now trips when the phase current exceeds its pickup. ",
 ];
 
+/// How long an input is, where no size is given.
 const SIZE: usize = 8_000;
 /// A first look, and a longer one where the first says that the port takes more than 0.8 of the Rust's time.
 const GLANCE: Effort = Effort { time: Duration::from_millis(20), rounds: 5 };
-const LOOK: Effort = Effort { time: Duration::from_millis(100), rounds: 200 };
+const LOOK: Effort = Effort { time: Duration::from_millis(100), rounds: 400 };
 
 struct Found {
     unit: String,
@@ -38,10 +39,10 @@ fn units(pieces: &[&str]) -> Vec<String> {
 }
 
 /// The times of all units that the port takes; it refuses those that open more than 64 lists.
-fn timed(kind: Kind, pieces: &[&str], b: &mut Buffers) -> Vec<Found> {
+fn timed(kind: Kind, pieces: &[&str], size: usize, b: &mut Buffers) -> Vec<Found> {
     let mut all = Vec::new();
     for unit in units(pieces) {
-        let input = unit.repeat((SIZE / unit.len()).max(1)).into_bytes();
+        let input = unit.repeat((size / unit.len()).max(1)).into_bytes();
         if number(kind, &input, b) != 0 {
             continue;
         }
@@ -65,11 +66,13 @@ fn report(name: &str, mut all: Vec<Found>) {
 
 /// The table of both kinds on standard output, the highest ratios on standard error.
 pub fn run(words: &[String]) {
-    if !words.is_empty() {
-        stop("search takes no further words".to_string());
-    }
+    let size = match words {
+        [] => SIZE,
+        [word] => word.parse().ok().filter(|size| (1..=60_000).contains(size)).unwrap_or_else(|| stop(format!("{word} is no size; give 1 to 60000 bytes"))),
+        _ => stop("search takes a size and no further words".to_string()),
+    };
     let mut b = Buffers::new();
     println!("| kind | inputs | ratio above 0.8 | above 0.9 | above 1 |\n|---|---|---|---|---|");
-    report("pages", timed(Kind::Page, &PAGE, &mut b));
-    report("Markdown", timed(Kind::Markdown, &MARKDOWN, &mut b));
+    report("pages", timed(Kind::Page, &PAGE, size, &mut b));
+    report("Markdown", timed(Kind::Markdown, &MARKDOWN, size, &mut b));
 }
