@@ -11,13 +11,13 @@ use lib.Dec.{leb}
 use lib.ListN.{length, getD, take, drop, set, length-append, length-take, drop-of-length-le}
 use lib.Seq.{drop-cons}
 use borrow.Author.Tests.{lt-ltb, le-ltb, leb-true}
-use Rattle.text.specs.Words.{_>>=_, case}
+use Rattle.text.specs.Words.{_>>=_, case, drop-while, trim-end-matches}
 use Rattle.text.specs.Utf8.{Scalars, utf8, encode, size, chars, is-utf8}
 use Rattle.text.specs.Trim.{trim}
 use Rattle.text.specs.Cut.{cut}
 use Rattle.text.specs.Outcome.{Outcome, refused, wrote, number, returned, front, result-after, work-kept}
 use Rattle.text.proofs.Tests.{on}
-use Rattle.text.proofs.Laws.{size-encode, utf8-size, decode-true, decode-false, chars-encode, utf8-scalars}
+use Rattle.text.proofs.Laws.{size-encode, utf8-size, decode-true, decode-false, chars-encode, chars-nil, utf8-scalars}
 use Rattle.text.proofs.CutLaws.{take-cut}
 use Rattle.text.proofs.Buffer.{Filled, filled-more, filled-all}
 use Rattle.text.proofs.TrimLaws.{chars-trim}
@@ -130,6 +130,10 @@ promised o p a result result' work work' e x y z v = rw e ((x, y), (z, v))
 pub notes-is : (notes trimmed work : List ℕ) (n : ℕ) → trimmed ≡ encode (trim (chars (take n work))) → notes ≡ encode (take 8000 (chars trimmed))
     → notes ≡ encode (take 8000 (trim (chars (take n work))))
 notes-is notes trimmed work n e f = f ∙ ap (λ (x : List ℕ). encode (take 8000 x)) (ap chars e ∙ chars-trim (take n work))
+
+pub notes-none : (work : List ℕ) (n : ℕ) → n ≡ 0 → encode (take 8000 (trim (chars (take n work)))) ≡ []
+unfolding trim-end-matches drop-while
+notes-none work n e = rw (e, chars-nil)
 
 -- a refusal, and a state
 pub no : (t : Tagged) (l w : List ℕ) → t .ok ≡ false → none ≡ tagged t l w

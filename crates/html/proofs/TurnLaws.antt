@@ -9,8 +9,8 @@ use mathlib.Core.Bool.{Bool, true, false, cond}
 use mathlib.Core.Option.{Option, some, none, Option·some-injective}
 use mathlib.Core.List.{List, [], _∷_}
 use lib.Dec.{ltb}
-use lib.ListN.{length, getD, take, drop, length-take, length-drop}
-use lib.Seq.{drop-cons, drop-drop, drop-append-seam, drop-length, take-all}
+use lib.ListN.{length, getD, take, drop, length-take, length-drop, length-append, drop-of-length-le}
+use lib.Seq.{drop-cons, drop-drop, drop-append-seam, drop-length, take-all, length-take-le}
 use borrow.Author.Tests.{lt-ltb, le-ltb, ltb-true, ltb-false}
 use Rattle.text.specs.Words.{if_then_else_, _>>=_, case, starts, index, find}
 use Rattle.text.specs.Utf8.{Scalars, encode, size, chars}
@@ -20,7 +20,7 @@ use Rattle.text.specs.declared.Found.the-variants.{Nowhere}
 use Rattle.text.proofs.Tests.{on, starts-room}
 use Rattle.text.proofs.Laws.{size-chars, chars-nil, advance-end, scalars-split}
 use Rattle.text.proofs.AsciiLaws.{chars-ascii, starts-chars, drop-chars}
-use Rattle.text.proofs.FindLaws.{until-since, chars-until, chars-since, IsHere, found-nowhere, index-none, index-some, take-until, drop-until, since-head}
+use Rattle.text.proofs.FindLaws.{until-since, chars-until, chars-since, since-drop, IsHere, found-nowhere, index-none, index-some, take-until, drop-until, since-head}
 use Rattle.text.proofs.TrimLaws.{chars-trim}
 use Rattle.html.specs.State.{State}
 use Rattle.html.specs.Page.{inside, words, Turn, read, refused, tag-read, comment, a-tag, markup, turn, on-turn, loop}
@@ -118,26 +118,55 @@ mark-is h at b j f =
 ascii-next : (h : List ℕ) (j b : ℕ) → j < length h → getD h j 0 ≡ b → b < 0x80 → chars (drop j h) ≡ b ∷ chars (drop (j + 1) h)
 ascii-next h j b l e m = ap chars (drop-cons h j 0 l) ∙ chars-ascii (getD h j 0) (drop (suc j) h) (omega arith) ∙ rw (e, add-one j)
 
-module _ (h : List ℕ) (at : ℕ) (c : State) where
+-- ---- where the text before a mark ends: at the first b, or at the end of all
+pub end-here : (s : List ℕ) (i b j : ℕ) → IsHere s i b j → j ≡ i + length (until b (drop i s))
+end-here s i b j f = omega (arith, ap length (f .until-is), length-take-le (j - i) (drop i s) (omega (arith, f .low, f .bound, length-drop i s)), f .low)
+
+pub end-all : (s : List ℕ) (i b : ℕ) → i ≤ length s → since b (drop i s) ≡ [] → length s ≡ i + length (until b (drop i s))
+end-all s i b l e = omega (arith, ap length (until-since b (drop i s)), length-append (until b (drop i s)) (since b (drop i s)), ap length e, length-drop i s)
+
+module _ (s : List ℕ) (i b j : ℕ) (l : i ≤ length s) (e : j ≡ i + length (until b (drop i s))) where
+  pub end-reach : (i ≤ j) × (j ≤ length s)
+  end-reach = (omega arith, omega (arith, ap length (until-since b (drop i s)), length-append (until b (drop i s)) (since b (drop i s)), length-drop i s))
+
+  part-is : take (j - i) (drop i s) ≡ until b (drop i s)
+  part-is = let q : j - i ≡ length (until b (drop i s)) = omega arith in rw q (take-until b (drop i s))
+
+  left-is : drop j s ≡ since b (drop i s)
+  left-is = ap (λ (k : ℕ). drop k s) e ∙ since-drop b s i
+
+  pub end-marked : j < length s → IsHere s i b j
+  end-marked h = record { low = omega arith; bound = h; until-is = part-is; since-is = left-is }
+
+  none-left : j ≡ length s → since b (drop i s) ≡ []
+  none-left q = sym left-is ∙ drop-of-length-le s {i = j} (omega arith)
+
+scalars-until : (b : ℕ) (s : List ℕ) → Scalars s → Scalars (until b s)
+scalars-until b s h = scalars-split (until b s) (since b s) (subst Scalars (sym (until-since b s)) h) .0
+
+module _ (h : List ℕ) (at j : ℕ) (l : at ≤ length h) (e : j ≡ at + length (until 60 (drop at h))) where
   abbrev rest : List ℕ
   rest = chars (drop at h)
 
-  pub bytes-text : (d : State) → at ≤ length h → found at (index (60 ∷ []) (drop at h)) ≡ Nowhere
-      → d ≡ words (chars (take (length h - at) (drop at h))) c → some (chars (drop (length h) h), d) ≡ left rest (turn rest c)
-  bytes-text d b e q =
-      let n = found-nowhere h at 60 e in
-      let z : since 60 rest ≡ [] = sym (chars-since 60 (omega arith) (drop at h)) ∙ ap chars n ∙ chars-nil in
-      let w : take (length h - at) (drop at h) ≡ drop at h = take-all (length h - at) (drop at h) (omega (arith, length-drop at h)) in
-      rw (q, w, ← chars-past h) (sym (turn-text rest c z))
+  piece-is : chars (take (j - at) (drop at h)) ≡ until 60 rest
+  piece-is = ap chars (part-is h at 60 j l e) ∙ chars-until 60 (omega arith) (drop at h)
 
-  module _ (j : ℕ) (f : IsHere h at 60 j) where
-    pub piece-is : chars (take (j - at) (drop at h)) ≡ until 60 rest
-    piece-is = ap chars (f .until-is) ∙ chars-until 60 (omega arith) (drop at h)
+  pub piece-scalars : Scalars rest → Scalars (chars (take (j - at) (drop at h)))
+  piece-scalars s = rw piece-is (scalars-until 60 rest s)
 
-    pub bytes-open : (d : State) → d ≡ words (chars (take (j - at) (drop at h))) c → left (chars (drop j h)) (markup 0 (chars (drop j h)) d) ≡ left rest (turn rest c)
-    bytes-open d q =
-        let z : chars (drop j h) ≡ since 60 rest = ap chars (f .since-is) ∙ chars-since 60 (omega arith) (drop at h) in
-        let m : 0 < length (since 60 rest) = omega (arith, ap length (sym z ∙ ascii-next h j 60 (f .bound) (mark-is h at 60 j f) (omega arith))) in
+  module _ (c d : State) (q : d ≡ words (chars (take (j - at) (drop at h))) c) where
+    pub bytes-text : j ≡ length h → some (chars (drop j h), d) ≡ left rest (turn rest c)
+    bytes-text f =
+        let n = none-left h at 60 j l e f in
+        let z : since 60 rest ≡ [] = sym (chars-since 60 (omega arith) (drop at h)) ∙ ap chars n ∙ chars-nil in
+        let w : take (j - at) (drop at h) ≡ drop at h = take-all (j - at) (drop at h) (omega (arith, length-drop at h)) in
+        rw (q, w, f, ← chars-past h) (sym (turn-text rest c z))
+
+    pub bytes-open : j < length h → left (chars (drop j h)) (markup 0 (chars (drop j h)) d) ≡ left rest (turn rest c)
+    bytes-open f =
+        let g = end-marked h at 60 j l e f in
+        let z : chars (drop j h) ≡ since 60 rest = ap chars (g .since-is) ∙ chars-since 60 (omega arith) (drop at h) in
+        let m : 0 < length (since 60 rest) = omega (arith, ap length (sym z ∙ ascii-next h j 60 f (mark-is h at 60 j g) (omega arith))) in
         ap (λ (l : List ℕ). left l (markup 0 l d)) z
         ∙ ap (λ (x : State). left (since 60 rest) (markup 0 (since 60 rest) x)) (q ∙ ap (λ (l : List ℕ). words l c) piece-is)
         ∙ sym (turn-open rest c m)
@@ -193,9 +222,6 @@ turned-tag t m w l = go (t .ok)
     go : (b : Bool) → (if b then some (l, state-of (t .state) m w) else none) ≡ tag-left l (if b then some (state-of (t .state) m w) else none)
     go true = refl
     go false = refl
-
-pub scalars-until : (b : ℕ) (s : List ℕ) → Scalars s → Scalars (until b s)
-scalars-until b s h = scalars-split (until b s) (since b s) (subst Scalars (sym (until-since b s)) h) .0
 
 -- ---- the loop
 loop-drop : (n : ℕ) (s : List ℕ) (c : State) → loop n s c ≡ loop 0 (drop n s) c
@@ -271,12 +297,6 @@ kept s l c d e = go (turn s c) refl e
 -- ---- what a call has to know of the parts of a page
 pub part-most : (k i : ℕ) (h : List ℕ) → length (take k (drop i h)) ≤ length h
 part-most k i h = omega (arith, length-take k (drop i h), length-drop i h)
-
-pub rest-scalars : (h : List ℕ) (at : ℕ) → Scalars (chars (drop at h)) → Scalars (chars (take (length h - at) (drop at h)))
-rest-scalars h at s = rw (take-all (length h - at) (drop at h) (omega (arith, length-drop at h))) s
-
-pub piece-scalars : (h : List ℕ) (at j : ℕ) (c : State) → IsHere h at 60 j → Scalars (chars (drop at h)) → Scalars (chars (take (j - at) (drop at h)))
-piece-scalars h at j c f s = rw (piece-is h at c j f) (scalars-until 60 (chars (drop at h)) s)
 
 pub mark-room : (s : List ℕ) (j : ℕ) (t : Bool) → t ≡ starts "<!--" (drop j s) → t ≡ true → j + 4 ≤ length s
 mark-room s j t e y = starts-room (60 ∷ 33 ∷ 45 ∷ 45 ∷ []) s j (omega arith) (sym e ∙ y)

@@ -24,6 +24,9 @@ pub(crate) fn finish(work: &[u8], len: usize, result: &mut [u8]) -> usize
     requires { ⌜ (len ≤ length (now work)) × (32000 ≤ length (now result)) ⌝ }
     ensures { λ r. ⌜ (r ≡ length (encode (take 8000 (trim (chars (take len (now (work .entry)))))))) × (now (result .exit) ≡ front (encode (take 8000 (trim (chars (take len (now (work .entry))))))) (now (result .entry))) ⌝ }
 {
+    if len == 0 {
+        return 0;
+    }
     let notes = text::first(text::trim(&work[..len]), Converter::MAX_NOTES);
     copy(notes, result);
     notes.len()

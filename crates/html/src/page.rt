@@ -11,6 +11,7 @@ ghost use mathlib.Core.Path.{_≡_};
 ghost use Prim.Native.Nat.{ℕ, _+_, _*_, _^_, _≤_, _<_};
 ghost use mathlib.Core.List.{List, []};
 ghost use Rattle.text.specs.Words.{case, find};
+ghost use Rattle.text.specs.Find.{until};
 ghost use mathlib.Core.Bool.{true};
 ghost use lib.ListN.{length, getD, drop};
 ghost use Rattle.text.specs.Utf8.{Scalars, chars};
@@ -127,18 +128,28 @@ impl Converter {
         ensures { λ r. ⌜ turned r (now (lists .exit)) (now (out .exit)) (now (html .entry)) ≡ left (chars (drop at (now (html .entry)))) (turn (chars (drop at (now (html .entry)))) (state-of self (now (lists .entry)) (now (out .entry)))) ⌝ }
         ensures { λ r. ⌜ (at < r .next) × (r .next ≤ length (now (html .entry))) ⌝ }
     {
-        let Found::Here(lt) = text::find(html, at, b'<') else {
-            let n = html.len();
-            let c = self.words(out, &html[at..n]);
+        let lt = text_end(html, at);
+        let c = self.words(out, &html[at..lt]);
+        if lt == html.len() {
             return Turned {
                 ok: true,
-                next: n,
+                next: lt,
                 state: c,
             };
-        };
-        let c = self.words(out, &html[at..lt]);
+        }
         c.markup(lists, out, html, lt)
     }
+}
+
+// Where the text from i on ends: at the next `<`, or at the end of the page.
+fn text_end(html: &[u8], i: usize) -> usize
+    requires { ⌜ i ≤ length (now html) ⌝ }
+    ensures { λ r. ⌜ r ≡ i + length (until 60 (drop i (now (html .entry)))) ⌝ }
+{
+    let Found::Here(lt) = text::find(html, i, b'<') else {
+        return html.len();
+    };
+    lt
 }
 
 // Where a comment ends: after the first `-->` from i on, or at the end of the page.

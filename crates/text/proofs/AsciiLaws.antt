@@ -9,8 +9,8 @@ use borrow.Author.Tests.{eq-eqb, ne-eqb, ltb-true, ltb-false, lt-ltb, le-leb, eq
 use native.Mathlib.Numerals.{add-one}
 use native.Mathlib.Omega.{arith}
 use lib.Dec.{ltb, eqb, eqb·suc-zero}
-use lib.ListN.{length, getD, take, drop, length-drop, take-append-drop}
-use lib.Seq.{drop-cons, drop-drop, getD-take, take-append-le, drop-append-le, length-take-le}
+use lib.ListN.{length, getD, take, drop}
+use lib.Seq.{drop-cons, drop-drop, getD-take}
 use native.Mathlib.Nat.{add-zero}
 use Rattle.text.specs.Utf8.{encode, chars, char, size-of, size}
 use Rattle.text.specs.Words.{starts-with, all, take-while}
@@ -19,7 +19,6 @@ use Rattle.text.specs.Chars.{is-digit, is-ascii, is-scalar, Ascii}
 use Rattle.text.proofs.Tests.{decide, on, and-true, and-false, false-true, within-above}
 use Rattle.text.proofs.Utf8.{utf8-1, char-1, char-ascii}
 use Rattle.text.proofs.Laws.{Next, next-is, Pos, pos-next, chars-nil, chars-at, size-encode}
-use Rattle.text.proofs.RunLaws.{run-front}
 
 -- an ASCII byte is its own character
 pub chars-ascii : (x : ℕ) (xs : List ℕ) → x < 0x80 → chars (x ∷ xs) ≡ x ∷ chars xs
@@ -116,6 +115,9 @@ pub low-ascii : (x : ℕ) → x < 0x80 → is-ascii x ≡ true
 unfolding is-ascii
 low-ascii x h = lt-ltb x 0x80 h
 
+pub one-ascii : (s : List ℕ) (i : ℕ) → i < length s → getD s i 0 < 0x80 → all is-ascii (take 1 (drop i s)) ≡ true
+one-ascii s i l h = rw (drop-cons s i 0 l, low-ascii (getD s i 0) h)
+
 ascii-scalar : (x : ℕ) → x < 0x80 → is-scalar x ≡ true
 unfolding is-scalar
 ascii-scalar x h = rw (le-leb x 0xD7FF (omega arith))
@@ -135,7 +137,7 @@ run-to s i j r =
     ∙ rw (drop-drop (length (take-while is-ascii (drop i s))) i s, r .run, ← drop-drop (length (take-while is-ascii (drop j s))) j s) (sym (run-scalar (drop j s)))
 
 -- ---- from byte i, where character k stands, on over ASCII
-pos-ascii : (m : ℕ) (s : List ℕ) (i k : ℕ) → Pos s i k → i + m ≤ length s → all is-ascii (take m (drop i s)) ≡ true → Pos s (i + m) (k + m)
+pub pos-ascii : (m : ℕ) (s : List ℕ) (i k : ℕ) → Pos s i k → i + m ≤ length s → all is-ascii (take m (drop i s)) ≡ true → Pos s (i + m) (k + m)
 unfolding is-ascii
 pos-ascii zero s i k p l h = rw (add-zero i, add-zero k) p
 pos-ascii (suc m) s i k p l h =
@@ -146,21 +148,3 @@ pos-ascii (suc m) s i k p l h =
     let x : i + suc m ≡ i + 1 + m = omega arith in
     let y : k + suc m ≡ k + 1 + m = omega arith in
     rw (x, y) r
-
--- over a run up to e in the first j bytes
-pub pos-run : (s : List ℕ) (i j k e : ℕ) → j ≤ length s → RunTo is-ascii (take j s) i e → Pos s i k → Pos s e (k + (e - i)) × (e ≤ j)
-pos-run s i j k e h r p =
-    let x = drop i (take j s) in
-    let m = e - i in
-    let d = length-take-le j s h in
-    let n = length-drop i (take j s) in
-    let u = r .low in
-    let v = r .high in
-    let a : drop i s ≡ x ++ drop j s = ap (drop i) (sym (take-append-drop j s)) ∙ drop-append-le i (take j s) (drop j s) (omega arith) in
-    let q : all is-ascii (take m (drop i s)) ≡ true =
-    ap (λ (y : List ℕ). all is-ascii (take m y)) a
-    ∙ ap (all is-ascii) (take-append-le m x (drop j s) (omega arith))
-    ∙ run-front is-ascii (take j s) i e r
-    in
-    let z : i + m ≡ e = omega arith in
-    (rw z at (pos-ascii m s i k p (omega arith) q), omega arith)

@@ -86,7 +86,7 @@ module _ (b : ℕ) (low : b < 0x80) where
       ∙ sym (until-since b (chars bs)))
 
 -- ---- what a search for one element answers
-since-drop : (b : ℕ) (s : List ℕ) (i : ℕ) → drop (i + length (until b (drop i s))) s ≡ since b (drop i s)
+pub since-drop : (b : ℕ) (s : List ℕ) (i : ℕ) → drop (i + length (until b (drop i s))) s ≡ since b (drop i s)
 since-drop b s i =
     sym (drop-drop (length (until b (drop i s))) i s)
     ∙ ap (drop (length (until b (drop i s)))) (sym (until-since b (drop i s)))

@@ -440,8 +440,16 @@ code-is s i l = by (char (drop i s)) refl
     by Bad e = code-bad s i e
     by End e = let d = rw e at (sound (drop i s)) in absurd (omega (arith, ap length d, length-drop i s))
 
-pub size-code : (s : List ℕ) (i : ℕ) → i < length s → size-of (char (drop i s)) ≡ length (utf8 (code-at s i))
-size-code s i l = let h = next-is s i l in sym (h .size) ∙ ap (λ (c : ℕ). length (utf8 c)) (sym (code-first s i (h .code) _ (h .rest)))
+-- ---- a size of 0 where no character starts, and of 1
+pub size-none : (x : Char) → 0 < size-of x → char-size x ≡ 0 → 1 ≡ size-of x
+size-none (At c n) l e = absurd (omega arith)
+size-none Bad l e = refl
+size-none End l e = absurd (omega arith)
+
+pub size-some : (x : Char) → (char-size x ≡ 0 → ⊥) → char-size x ≡ size-of x
+size-some (At c n) h = refl
+size-some Bad h = absurd (h refl)
+size-some End h = absurd (h refl)
 
 pub record Turn (s : List ℕ) (i c : ℕ) : Type 0 where
   pub low : 1 ≤ length (utf8 c)

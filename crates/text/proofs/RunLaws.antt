@@ -110,7 +110,3 @@ module _ (p : ℕ → Bool) where
 
     pub at-end : (j : ℕ) → RunTo p s i j → length s ≤ j → i + length (take-while p (drop i s)) ≡ j
     at-end j h l = let r = h .run in let z = ap length (run-end s j l) in omega arith
-
-    -- what it passed
-    pub run-front : (j : ℕ) → RunTo p s i j → all p (take (j - i) (drop i s)) ≡ true
-    run-front j h = all-front (j - i) (drop i s) (let r = h .run in omega (arith, h .low))

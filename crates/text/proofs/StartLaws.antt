@@ -2,19 +2,15 @@
 -- Assumes nothing.
 use Prim.Native.Nat.{ℕ, _+_, _*_, _≤_, _<_}
 use native.Mathlib.Omega.{arith}
-use mathlib.Core.Path.{_≡_, refl, sym, ap, _∙_}
+use mathlib.Core.Path.{_≡_, refl}
 use mathlib.Core.Bool.{Bool, true, false, not, _&&_}
-use mathlib.Core.List.{List}
 use mathlib.Core.Logic.{⊎-elim}
 use lib.Dec.{ltb, leb}
-use lib.ListN.{length, getD, drop, List·getD-eq-default}
 use borrow.Author.Tests.{ltb-true, ltb-false, leb-true, leb-false, le-leb, lt-leb}
 use Rattle.text.specs.Words.{if_then_else_}
 use Rattle.text.specs.Chars.{within}
-use Rattle.text.specs.Utf8.{tail, starts3, starts4, char-of, char, char-size}
-use Rattle.text.specs.declared.Char.{Char}
-use Rattle.text.proofs.Utf8.{two-bytes, three-bytes, four-bytes, char-drop}
-use Rattle.text.proofs.Tests.{decide, on, within-true, within-is, within-below, within-above}
+use Rattle.text.specs.Utf8.{tail, starts3, starts4}
+use Rattle.text.proofs.Tests.{decide, within-true, within-is, within-below, within-above}
 
 -- a test that is right where the byte is a tail serves behind the test for a tail
 pub after-tail : (t u r x : Bool) (n : ℕ) → (t ≡ true → r ≡ x) → (if t && u && r then n else 0) ≡ (if t && u && x then n else 0)
@@ -95,46 +91,3 @@ module _ (a b : ℕ) (t : tail b ≡ true) where
       (decide (ltb a 0xF5)))
       (decide (ltb a 0xF4)))
       (decide (ltb a 0xF1))
-
--- ---- how many bytes the character at an offset has where no ASCII stands, by as many bytes as its first asks for
-module _ (s : List ℕ) (i : ℕ) (l : i < length s) (high : 0x7F < getD s i 0) where
-  abbrev A : ℕ
-  A = getD s i 0
-
-  abbrev S : ℕ
-  S = char-size (char (drop i s))
-
-  past-end : (k : ℕ) → length s ≤ k → tail (getD s k 0) ≡ false
-  past-end k h = rw (List·getD-eq-default s 0 h)
-
-  pub short-2 : length s < i + 2 → 0 ≡ S
-  unfolding char-of
-  short-2 h = rw (char-drop s i l, lt-leb A 0x7F high, past-end (i + 1) (omega arith))
-
-  pub short-3 : 0xE0 ≤ A → length s < i + 3 → 0 ≡ S
-  unfolding char-of
-  short-3 g h =
-      rw (char-drop s i l, lt-leb A 0x7F high, within-above 0xC2 0xDF A (omega arith) (omega arith), past-end (i + 2) (omega arith))
-      (on (λ (x : Char). 0 ≡ char-size x) (tail (getD s (i + 1) 0)) (λ _. refl) (λ _. refl))
-
-  pub short-4 : 0xF0 ≤ A → length s < i + 4 → 0 ≡ S
-  short-4 g h =
-      rw (char-drop s i l, ← four-bytes A (getD s (i + 1) 0) (getD s (i + 2) 0) (getD s (i + 3) 0) high g, past-end (i + 3) (omega arith))
-      (by (tail (getD s (i + 1) 0)) (tail (getD s (i + 2) 0)))
-    where
-      by : (t u : Bool) → _≡_ {A = ℕ} 0 (if t && u && false && starts4 A (getD s (i + 1) 0) then 4 else 0)
-      by true true = refl
-      by true false = refl
-      by false u = refl
-
-  pub two-of : A < 0xE0 → char-size (char-of A (getD s (i + 1) 0) 0 0) ≡ S
-  two-of h =
-      sym (two-bytes A (getD s (i + 1) 0) 0 0 high h)
-      ∙ two-bytes A (getD s (i + 1) 0) (getD s (i + 2) 0) (getD s (i + 3) 0) high h
-      ∙ ap char-size (sym (char-drop s i l))
-
-  pub three-of : 0xE0 ≤ A → A < 0xF0 → char-size (char-of A (getD s (i + 1) 0) (getD s (i + 2) 0) 0) ≡ S
-  three-of g h =
-      sym (three-bytes A (getD s (i + 1) 0) (getD s (i + 2) 0) 0 high g h)
-      ∙ three-bytes A (getD s (i + 1) 0) (getD s (i + 2) 0) (getD s (i + 3) 0) high g h
-      ∙ ap char-size (sym (char-drop s i l))

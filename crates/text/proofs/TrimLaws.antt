@@ -1,7 +1,7 @@
 -- The laws of `specs/Trim.antt`.
 -- Assumes nothing.
 use Prim.Native.Nat.{ℕ, zero, suc, _+_, _-_, _≤_, _<_}
-use mathlib.Core.Bool.{Bool, true, false, cond, _||_, true≢false, or-false, _&&_}
+use mathlib.Core.Bool.{Bool, true, false, cond, _||_, true≢false, or-false}
 use mathlib.Core.List.{List, [], _∷_, _++_, append-assoc, append-nil, reverse, reverse-cons, reverse-append, reverse-reverse}
 use mathlib.Core.Logic.{_⊎_, inl, inr, ⊎-elim}
 use mathlib.Core.Path.{_≡_, refl, sym, ap, _∙_}
@@ -12,13 +12,13 @@ use lib.ListN.{length, getD, take, drop, length-append, length-drop, take-append
 use lib.Seq.{length-take-le, drop-at, take-append-seam, take-length}
 use Rattle.text.specs.Words.{drop-while, trim-end-matches}
 use Rattle.text.specs.Chars.{within, is-space}
-use Rattle.text.specs.Utf8.{IsScalar, utf8, encode, char, stray, chars, code-at}
+use Rattle.text.specs.Utf8.{IsScalar, utf8, encode, char, stray, chars}
 use Rattle.text.specs.Trim.{trim-start, trim-end, start-of, end-of, is-space-of, space-at, space-before, trim}
 use Rattle.text.specs.declared.Char.{Char}
 use Rattle.text.specs.declared.Char.the-variants.{At, Bad, End}
 use Rattle.text.proofs.Tests.{decide, on, and-true, within-below, within-above}
 use Rattle.text.proofs.Utf8.{utf8-1, utf8-2, utf8-3, utf8-stray, ranges, char-utf8, char-ascii}
-use Rattle.text.proofs.Laws.{advance, by-chars, encode-chars, encode-append, chars-nil, chars-utf8, chars-bad, chars-append, utf8-lead, utf8-size, chars-one, code-char, code-bad, code-end}
+use Rattle.text.proofs.Laws.{advance, by-chars, encode-chars, encode-append, chars-nil, chars-utf8, chars-bad, chars-append, utf8-lead, utf8-size, chars-one}
 use Rattle.text.proofs.Lists.{last-of}
 
 -- ---- spaces

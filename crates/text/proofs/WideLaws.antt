@@ -15,8 +15,8 @@ use Rattle.text.specs.Utf8.{tail, starts3, given, join, char-of, char, c
 use Rattle.text.specs.Trim.{trim-start, wide-space, is-space-of, space-at}
 use Rattle.text.specs.declared.Char.{Char}
 use Rattle.text.specs.declared.Char.the-variants.{At, Bad, End}
-use Rattle.text.proofs.Tests.{decide, on, false-true, and-true, and-false, or-elim, within-true, within-is, within-below, within-above}
-use Rattle.text.proofs.Utf8.{Two, Three, IsFour, value2, value3, value4, by-rows, char-drop}
+use Rattle.text.proofs.Tests.{decide, on, false-true, and-true, and-false, or-elim, within-true, within-is, within-above}
+use Rattle.text.proofs.Utf8.{Three, value2, value3, value4, by-rows, char-drop}
 use Rattle.text.proofs.Laws.{advance, advance-ascii, advance-bad}
 use Rattle.text.proofs.TrimLaws.{space-top, space-near, space-ascii, start-space, start-other}
 

@@ -1,6 +1,7 @@
 // Runs of ASCII.
 ghost use Prim.Native.Nat.{_+_, _<_, _≤_};
 ghost use mathlib.Core.Path.{_≡_};
+ghost use mathlib.Core.Bool.{true};
 ghost use lib.ListN.{length, getD, take, drop};
 ghost use Rattle.text.specs.Words.{all};
 ghost use Rattle.text.specs.Chars.{is-ascii};
@@ -34,41 +35,45 @@ fn is_ascii_word(s: &[u8], i: usize) -> bool
     ascii
 }
 
-// Where the blocks of 32 ASCII bytes from i on end, and the words of 8 behind them. A first word is tested alone: most runs are short.
-pub(crate) fn ascii_blocks(s: &[u8], i: usize) -> usize
+// Where the blocks of 32 ASCII bytes from i on end.
+fn ascii_blocks(s: &[u8], i: usize) -> usize
     requires { ⌜ i ≤ length (now s) ⌝ }
     ensures { λ r. ⌜ RunTo is-ascii (now (s .entry)) i r ⌝ }
 {
-    if s.len() - i < 8 {
-        return i;
-    }
-    if !is_ascii_word(s, i) {
-        return i;
-    }
     let mut j = i;
     while 32 <= s.len() - j {
         if !is_ascii_block(s, j) {
-            break;
-        }
-        j += 32;
-    }
-    while 8 <= s.len() - j {
-        if !is_ascii_word(s, j) {
             return j;
         }
-        j += 8;
+        j += 32;
     }
     j
 }
 
-// An offset after i up to which all is ASCII, as the byte at i is. Blocks are tried only from multiples of 8 on, so that a short run costs little.
+// An offset after i up to which all is ASCII, as the byte at i is. A word is tried only from multiples of 8 on, so that a short run costs little.
 pub(crate) fn past_ascii(s: &[u8], i: usize) -> usize
-    requires { ⌜ (i < length (now s)) × (getD (now s) i 0 < 0x80) ⌝ }
+    requires { ⌜ (i + 8 < length (now s)) × (getD (now s) i 0 < 0x80) ⌝ }
     ensures { λ r. ⌜ RunTo is-ascii (now (s .entry)) i r × (i < r) ⌝ }
 {
     let j = i + 1;
     if j % 8 != 0 {
         return j;
     }
-    ascii_blocks(s, j)
+    if !is_ascii_word(s, j) {
+        return j;
+    }
+    ascii_blocks(s, j + 8)
+}
+
+// How many ASCII bytes are passed over at once from i on, where one stands, and no more than `most`: a word of 8, or 1.
+pub(crate) fn ascii_step(s: &[u8], i: usize, most: usize) -> usize
+    requires { ⌜ (getD (now s) i 0 < 0x80) × ((0 < most) × (i + most ≤ length (now s))) ⌝ }
+    ensures { λ r. ⌜ (all is-ascii (take r (drop i (now (s .entry)))) ≡ true) × ((0 < r) × (r ≤ most)) ⌝ }
+{
+    if (i % 8 == 0) & (8 <= most) {
+        if is_ascii_word(s, i) {
+            return 8;
+        }
+    }
+    1
 }

@@ -6,9 +6,8 @@ ghost use lib.ListN.{length, getD, drop};
 ghost use Rattle.text.specs.Words.{if_then_else_};
 ghost use Rattle.text.specs.Utf8.{tail, starts3, starts4, join, char-of, char, size-of, char-size, char-code, FourAt, code-at, is-utf8};
 use crate::Char;
-use crate::ascii::ascii_blocks;
+use crate::ascii::past_ascii;
 use crate::classes::within;
-use crate::encoding::width;
 
 // The byte at i, or 0 past the end.
 pub fn byte(s: &[u8], i: usize) -> u32
@@ -136,29 +135,13 @@ fn four_at(s: &[u8], i: usize) -> Four
     }
 }
 
-// How many bytes the character at i has, where no ASCII stands; 0 where none starts. No byte is read that its first byte does not ask for.
+// How many bytes the character at i has; 0 where none starts.
 fn char_size(s: &[u8], i: usize) -> usize
-    requires { ⌜ (i < length (now s)) × (0x80 ≤ getD (now s) i 0) ⌝ }
+    requires { ⌜ i < length (now s) ⌝ }
     ensures { λ r. ⌜ r ≡ char-size (char (drop i (now (s .entry)))) ⌝ }
 {
-    let left = s.len() - i;
-    let a = wide(s[i]);
-    if a < 0xE0 {
-        if left < 2 {
-            return 0;
-        }
-        return size_of(a, wide(s[i + 1]), 0, 0);
-    }
-    if a < 0xF0 {
-        if left < 3 {
-            return 0;
-        }
-        return size_of(a, wide(s[i + 1]), wide(s[i + 2]), 0);
-    }
-    if left < 4 {
-        return 0;
-    }
-    size_of(a, wide(s[i + 1]), wide(s[i + 2]), wide(s[i + 3]))
+    let f = four_at(s, i);
+    size_of(f.a, f.b, f.c, f.d)
 }
 
 // The code at i: a character, or 0x110000 and a byte that starts none; 0 at the end.
@@ -179,20 +162,37 @@ pub fn size_at(s: &[u8], i: usize) -> usize
     if s.len() <= i {
         return 0;
     }
-    width(code_at(s, i))
+    let n = char_size(s, i);
+    if n == 0 {
+        return 1;
+    }
+    n
 }
 
-// Whether all of s is UTF-8.
+// Whether s is UTF-8 from i on.
+fn is_utf8_from(s: &[u8], i: usize) -> bool
+    requires { ⌜ i ≤ length (now s) ⌝ }
+    ensures { λ r. ⌜ r ≡ is-utf8 (drop i (now (s .entry))) ⌝ }
+{
+    let mut j = i;
+    while j < s.len() {
+        let n = char_size(s, j);
+        if n == 0 {
+            return false;
+        }
+        j += n;
+    }
+    true
+}
+
+// Whether all of s is UTF-8. While more than 8 bytes are left, no character is tested for going past the end.
 pub fn is_utf8(s: &[u8]) -> bool
     ensures { λ r. ⌜ r ≡ is-utf8 (now (s .entry)) ⌝ }
 {
-    let mut i = ascii_blocks(s, 0);
-    while i < s.len() {
+    let mut i = 0;
+    while 8 < s.len() - i {
         if s[i] < 0x80 {
-            i += 1;
-            if i % 8 == 0 {
-                i = ascii_blocks(s, i);
-            }
+            i = past_ascii(s, i);
             continue;
         }
         let n = char_size(s, i);
@@ -201,5 +201,5 @@ pub fn is_utf8(s: &[u8]) -> bool
         }
         i += n;
     }
-    true
+    is_utf8_from(s, i)
 }

@@ -3,7 +3,7 @@ ghost use mathlib.Core.Path.{_≡_};
 ghost use lib.ListN.{length, take, drop};
 ghost use Rattle.text.specs.Utf8.{chars, encode};
 ghost use Rattle.text.specs.Cut.{cut, splits, cut-end};
-use crate::ascii::past_ascii;
+use crate::ascii::ascii_step;
 use crate::decoding::size_at;
 
 // The first n bytes of s, or all of them.
@@ -75,10 +75,9 @@ pub fn first(s: &[u8], n: usize) -> &[u8]
             return s;
         }
         if s[i] < 0x80 {
-            let j = i + most;
-            let e = past_ascii(&s[..j], i);
-            k += e - i;
-            i = e;
+            let w = ascii_step(s, i, most);
+            k += w;
+            i += w;
             continue;
         }
         i += size_at(s, i);

@@ -1,16 +1,14 @@
 -- `text::is_utf8` meets its contract. The loop's invariant: whether the whole is UTF-8 is whether what is left is.
 -- Assumes nothing.
-use Prim.Native.Nat.{_+_, _-_, _≤_}
+use Prim.Native.Nat.{_-_, _≤_}
 use native.Mathlib.Omega.{arith}
-use mathlib.Core.Path.{_≡_, sym, _∙_}
+use mathlib.Core.Path.{_≡_, refl, sym, _∙_}
 use lib.ListN.{length, drop}
 use Rattle.text.specs.Words.{all}
-use Rattle.text.specs.Chars.{is-scalar, is-ascii}
+use Rattle.text.specs.Chars.{is-scalar}
 use Rattle.text.specs.Utf8.{chars, is-utf8}
-use Rattle.text.proofs.Laws.{Step, advance-end, no-char, some-char, stuck, scalar-is}
-use Rattle.text.specs.Run.{RunTo}
-use Rattle.text.proofs.RunLaws.{at-start, past-one, past-run}
-use Rattle.text.proofs.AsciiLaws.{low-ascii, run-to}
+use Rattle.text.proofs.Laws.{Step, no-char, some-char, stuck, scalar-is}
+use Rattle.text.proofs.AsciiLaws.{run-to}
 use Rattle.text.proofs.decoding.is_utf8.Statement.{statement}
 use Rattle.text.proofs.decoding.is_utf8.Tie as tie
 
@@ -20,62 +18,69 @@ Inv-loop s i₀ i = (all is-scalar (chars s) ≡ all is-scalar (chars (drop i s)
 abbrev μ-loop : tie.MeasureT-loop
 μ-loop s i₀ i = length s - i
 
-ascii-blocks-requires : tie.Need-ascii-blocks-requires Inv-loop μ-loop
-ascii-blocks-requires c κs = omega arith
-
 loop-holds : tie.Need-loop-holds Inv-loop μ-loop
-loop-holds c = (run-to _ 0 _ (c .ascii-blocks .ensures), c .ascii-blocks .ensures .high)
+loop-holds c = (refl, omega arith)
+
+sub-loop : tie.Need-sub-loop Inv-loop μ-loop
+sub-loop c = c .loop .inv .1
 
 shared-slice-read-if1 : tie.Need-shared-slice-read-if1 Inv-loop μ-loop
 shared-slice-read-if1 c = omega arith
 
-add-i : tie.Need-add-i Inv-loop μ-loop
-add-i c = omega arith
-
-ascii-blocks-requires-2 : tie.Need-ascii-blocks-requires-2 Inv-loop μ-loop
-ascii-blocks-requires-2 c κs = omega arith
-
--- the byte at i is ASCII
-one : (c : tie.Then1 Inv-loop μ-loop) → RunTo is-ascii (c .before .before .before .before .before .before .args .s .now) (c .before .before .before .loop .i) (c .before .before .before .loop .i + 1)
-one c = past-one is-ascii (c .before .before .before .before .before .before .args .s .now) (c .before .before .before .loop .i) (c .before .before .before .loop .i) (at-start is-ascii _ _ (omega arith)) (c .before .before .loop-test .taken) (low-ascii _ (c .if1 .taken))
+past-ascii-requires : tie.Need-past-ascii-requires Inv-loop μ-loop
+past-ascii-requires c κs = (omega arith, c .if1 .taken)
 
 loop-less : tie.Need-loop-less Inv-loop μ-loop
-loop-less c = omega (arith, c .ascii-blocks2 .ensures .low, c .ascii-blocks2 .ensures .high)
+loop-less c = omega (arith, c .past-ascii .ensures .1, c .past-ascii .ensures .0 .high)
 
 loop-again : tie.Need-loop-again Inv-loop μ-loop
-loop-again c = (c .before .before .before .before .before .loop .inv .0 ∙ run-to _ _ _ (past-run is-ascii _ _ _ _ (one (c .before .before)) (c .ascii-blocks2 .ensures)), c .ascii-blocks2 .ensures .high)
-
-loop-less-2 : tie.Need-loop-less-2 Inv-loop μ-loop
-loop-less-2 c = omega arith
-
-loop-again-2 : tie.Need-loop-again-2 Inv-loop μ-loop
-loop-again-2 c = (c .before .before .before .before .loop .inv .0 ∙ run-to _ _ _ (one (c .before)), omega arith)
+loop-again c = (c .before .before .before .before .loop .inv .0 ∙ run-to _ _ _ (c .past-ascii .ensures .0), c .past-ascii .ensures .0 .high)
 
 char-size-requires : tie.Need-char-size-requires Inv-loop μ-loop
 char-size-requires c κs = omega arith
 
 returns : tie.Need-returns Inv-loop μ-loop
 unfolding is-utf8
-returns c = sym (c .before .before .before .before .before .loop .inv .0 ∙ stuck _ _ (c .before .before .before .before .loop-test .taken) (no-char (c .before .before .before .before .before .before .before .before .args .s .now) (c .before .before .before .before .before .loop .i) (sym (c .before .char-size .ensures) ∙ c .if3 .taken)))
+returns c = sym (c .before .before .before .before .before .loop .inv .0 ∙ stuck (c .before .before .before .before .before .before .before .args .s .now) (c .before .before .before .before .before .loop .i) (omega arith) (no-char (c .before .before .before .before .before .before .before .args .s .now) (c .before .before .before .before .before .loop .i) (sym (c .before .char-size .ensures) ∙ c .if2 .taken)))
 
 -- the step over a character
-step : (c : tie.Else3 Inv-loop μ-loop) → (x : _) × Step (c .before .before .before .before .before .before .before .before .args .s .now) (c .before .before .before .before .before .loop .i) x (c .before .char-size .result)
-step c = some-char _ _ _ (c .before .char-size .ensures) (c .if3 .left)
+step : (c : tie.Else2 Inv-loop μ-loop) → (x : _) × Step (c .before .before .before .before .before .before .before .args .s .now) (c .before .before .before .before .before .loop .i) x (c .before .char-size .result)
+step c = some-char _ _ _ (c .before .char-size .ensures) (c .if2 .left)
 
-add-i-2 : tie.Need-add-i-2 Inv-loop μ-loop
-add-i-2 c = let h = step c .1 in omega arith
+add-i : tie.Need-add-i Inv-loop μ-loop
+add-i c = let h = step c .1 in omega arith
 
-loop-less-3 : tie.Need-loop-less-3 Inv-loop μ-loop
-loop-less-3 c = let h = step c .1 in omega arith
+loop-less-2 : tie.Need-loop-less-2 Inv-loop μ-loop
+loop-less-2 c = let h = step c .1 in omega arith
 
-loop-again-3 : tie.Need-loop-again-3 Inv-loop μ-loop
-loop-again-3 c =
+loop-again-2 : tie.Need-loop-again-2 Inv-loop μ-loop
+loop-again-2 c =
     let h = step c .1 in
     (c .before .before .before .before .before .loop .inv .0 ∙ rw (h .rest, scalar-is _ (h .scalar)), h .bound)
 
+is-utf8-from-requires : tie.Need-is-utf8-from-requires Inv-loop μ-loop
+is-utf8-from-requires c κs = c .before .loop .inv .1
+
 returns-2 : tie.Need-returns-2 Inv-loop μ-loop
 unfolding is-utf8
-returns-2 c = sym (c .before .loop .inv .0 ∙ rw (advance-end _ _ (c .loop-test .left)))
+returns-2 c = c .is-utf8-from .ensures ∙ sym (c .before .before .loop .inv .0)
 
 pub is-utf8-spec : {M : Type 1} → statement M
-is-utf8-spec = tie.close (tie.spec Inv-loop μ-loop ascii-blocks-requires loop-holds shared-slice-read-if1 add-i ascii-blocks-requires-2 loop-less loop-again loop-less-2 loop-again-2 char-size-requires returns add-i-2 loop-less-3 loop-again-3 returns-2)
+is-utf8-spec =
+    tie.close
+    (tie.spec
+    Inv-loop
+    μ-loop
+    loop-holds
+    sub-loop
+    shared-slice-read-if1
+    past-ascii-requires
+    loop-less
+    loop-again
+    char-size-requires
+    returns
+    add-i
+    loop-less-2
+    loop-again-2
+    is-utf8-from-requires
+    returns-2)

@@ -5,10 +5,10 @@ use native.Mathlib.Omega.{arith}
 use mathlib.Core.Path.{_≡_, sym, ap, _∙_}
 use borrow.Author.Needs.{needs}
 use lib.ListN.{length, length-drop, drop}
-use lib.Seq.{length-take-le, getD-take, take-all}
+use lib.Seq.{length-take-le, take-all}
 use Rattle.text.specs.Utf8.{chars, encode}
 use Rattle.text.proofs.Laws.{Next, next-is, Pos, pos-zero, pos-next, encode-chars, chars-length}
-use Rattle.text.proofs.AsciiLaws.{pos-run}
+use Rattle.text.proofs.AsciiLaws.{pos-ascii}
 use Rattle.text.proofs.parts.first.Statement.{statement}
 use Rattle.text.proofs.parts.first.Tie as tie
 
@@ -22,14 +22,9 @@ abbrev μ-loop : tie.MeasureT-loop
 step : (c : tie.After-size-at Inv-loop μ-loop) → Next (c .before .before .before .before .before .before .before .args .s .now) (c .before .before .before .before .before .loop .i) (c .size-at .result)
 step c = rw (c .size-at .ensures) (next-is _ _ (let h = c .before .before .before .before .before .loop .inv .0 .bound in omega arith))
 
--- the run of ASCII that a turn passes over
-passed : (c : tie.After-past-ascii Inv-loop μ-loop)
-    → Pos (c .before .before .before .before .before .before .before .before .args .s .now) (c .past-ascii .result) (c .before .before .before .before .before .before .loop .k + (c .past-ascii .result - c .before .before .before .before .before .before .loop .i))
-    × (c .past-ascii .result ≤ c .before .before .before .before .before .before .loop .i + (c .before .before .before .before .before .before .before .before .args .n - c .before .before .before .before .before .before .loop .k))
-passed c =
-    let p = c .before .before .before .before .before .before .loop .inv .0 in
-    let b = p .bound in
-    pos-run (c .before .before .before .before .before .before .before .before .args .s .now) (c .before .before .before .before .before .before .loop .i) (c .before .before .before .before .before .before .loop .i + (c .before .before .before .before .before .before .before .before .args .n - c .before .before .before .before .before .before .loop .k)) (c .before .before .before .before .before .before .loop .k) (c .past-ascii .result) (omega arith) (c .past-ascii .ensures .0) p
+-- the ASCII that a turn passes over
+passed : (c : tie.After-ascii-step Inv-loop μ-loop) → Pos (c .before .before .before .before .before .before .before .args .s .now) (c .before .before .before .before .before .loop .i + c .ascii-step .result) (c .before .before .before .before .before .loop .k + c .ascii-step .result)
+passed c = pos-ascii _ _ _ _ (c .before .before .before .before .before .loop .inv .0) (let h = c .ascii-step .ensures .1 .1 in omega arith) (c .ascii-step .ensures .0)
 
 loop-holds : tie.Need-loop-holds Inv-loop μ-loop
 loop-holds c = (pos-zero _, omega arith)
@@ -54,37 +49,28 @@ returns c =
 shared-slice-read-if2 : tie.Need-shared-slice-read-if2 Inv-loop μ-loop
 shared-slice-read-if2 c = let h = c .before .before .before .loop .inv .0 .bound in omega arith
 
-add-j : tie.Need-add-j Inv-loop μ-loop
-add-j c = let h = c .before .before .before .before .loop .inv .0 .bound in omega arith
-
-slice-aggregate-past-ascii : tie.Need-slice-aggregate-past-ascii Inv-loop μ-loop
-slice-aggregate-past-ascii c = let h = c .before .before .before .before .before .loop .inv .0 .bound in sym (length-take-le _ _ (omega arith))
-
-past-ascii-requires : tie.Need-past-ascii-requires Inv-loop μ-loop
-past-ascii-requires c κs =
-    let s = c .before .before .before .before .before .before .before .args .s .now in
-    let i = c .before .before .before .before .before .loop .i in
-    let m = c .before .before .before .before .before .before .before .args .n - c .before .before .before .before .before .loop .k in
-    let b = c .before .before .before .before .before .loop .inv .0 .bound in
-    (rw (length-take-le (i + m) s (omega arith)) (omega arith), rw (getD-take (i + m) s i 0 (omega arith)) (c .before .if2 .taken))
-
-sub-k : tie.Need-sub-k Inv-loop μ-loop
-sub-k c = omega (arith, c .past-ascii .ensures .1)
+ascii-step-requires : tie.Need-ascii-step-requires Inv-loop μ-loop
+ascii-step-requires c κs =
+    let b = c .before .before .before .before .loop .inv .0 .bound in
+    (c .if2 .taken, (omega arith, omega arith))
 
 add-k : tie.Need-add-k Inv-loop μ-loop
-add-k c = omega (arith, passed c .1, c .past-ascii .ensures .1)
+add-k c = let h = c .ascii-step .ensures .1 .1 in omega arith
+
+add-i : tie.Need-add-i Inv-loop μ-loop
+add-i c = let h = passed c .bound in omega arith
 
 loop-less : tie.Need-loop-less Inv-loop μ-loop
-loop-less c = omega (arith, passed c .1, c .past-ascii .ensures .1)
+loop-less c = let h = c .ascii-step .ensures .1 in omega (arith, h .0, h .1)
 
 loop-again : tie.Need-loop-again Inv-loop μ-loop
-loop-again c = let h = passed c in (h .0, omega (arith, h .1, c .past-ascii .ensures .1))
+loop-again c = let h = c .ascii-step .ensures .1 .1 in (passed c, omega arith)
 
 size-at-requires : tie.Need-size-at-requires Inv-loop μ-loop
 size-at-requires c κs = search needs
 
-add-i : tie.Need-add-i Inv-loop μ-loop
-add-i c = let h = step c in omega (arith, h .bound)
+add-i-2 : tie.Need-add-i-2 Inv-loop μ-loop
+add-i-2 c = let h = step c in omega (arith, h .bound)
 
 add-k-2 : tie.Need-add-k-2 Inv-loop μ-loop
 add-k-2 c = omega arith
@@ -115,15 +101,13 @@ first-spec =
     sub-if1
     returns
     shared-slice-read-if2
-    add-j
-    slice-aggregate-past-ascii
-    past-ascii-requires
-    sub-k
+    ascii-step-requires
     add-k
+    add-i
     loop-less
     loop-again
     size-at-requires
-    add-i
+    add-i-2
     add-k-2
     loop-less-2
     loop-again-2
