@@ -46,7 +46,6 @@ after : (p s : List ℕ) → Ascii p → starts-with p s ≡ true → Ascii (dro
 after p s a e b = subst Ascii (sym (starts-split p s e)) (ascii-append p (drop (length p) s) a b)
 
 from-ascii : (radix : ℕ) (s : List ℕ) (n : ℕ) → radix ≤ 16 → from-str-radix radix s ≡ some n → Ascii s
-unfolding is-ascii
 from-ascii radix s n l e =
     ⊎-elim
     (λ t. after (str "+") s (ascii-true (str "+") refl) t (some-digits-ascii radix (drop 1 s) n l (sym (from-plus radix s 0 t) ∙ e)))
@@ -54,7 +53,7 @@ from-ascii radix s n l e =
     (decide (starts "+" s))
 
 written-ascii : (s : List ℕ) (n : ℕ) → written s ≡ some n → Ascii s
-unfolding written is-ascii
+unfolding written
 written-ascii s n e = by (starts "#" s) (starts "#x" s) (starts "#X" s) refl refl refl e
   where
     by : (a b c : Bool) → starts "#" s ≡ a → starts "#x" s ≡ b → starts "#X" s ≡ c
@@ -66,7 +65,6 @@ written-ascii s n e = by (starts "#" s) (starts "#x" s) (starts "#X" s) refl ref
 
 -- ---- and so are names
 word-ascii : (k : Word) → all is-ascii (str (spelling k)) ≡ true
-unfolding is-ascii
 word-ascii amp = refl
 word-ascii lt = refl
 word-ascii gt = refl

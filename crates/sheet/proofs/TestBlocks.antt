@@ -10,8 +10,8 @@ use mathlib.Core.List.{List, [], _∷_, _++_, append-nil, append-assoc, map}
 use borrow.Author.Tests.{lt-ltb, ltb-true, ltb-false}
 use lib.Dec.{ltb}
 use lib.ListN.{length, getD, length-append}
-use Rattle.text.specs.Words.{str, repeat, _>>=_}
-use Rattle.text.specs.Chars.{within}
+use Rattle.text.specs.Words.{all, str, repeat, _>>=_}
+use Rattle.text.specs.Chars.{within, is-ascii}
 use Rattle.text.specs.Utf8.{utf8, code-at}
 use Rattle.text.proofs.Tests.{within-true, decide}
 use Rattle.text.proofs.Laws.{turn-is, advance-end}
@@ -22,7 +22,7 @@ use Rattle.sheet.specs.Grammar.{closes-h, is-list, IsList}
 use Rattle.sheet.specs.Reader.{Answer, line, read-list, digit, closed-by, headed, read-heading, read-para, list-of, block}
 use Rattle.sheet.specs.Written.{Row, rows-from, rows, written-runs, written-row, joined}
 use Rattle.sheet.specs.Weight.{weight, alike, added}
-use Rattle.sheet.specs.Says.{from, Says, low, ascii}
+use Rattle.sheet.specs.Says.{from, Says}
 use Rattle.sheet.specs.Forms.{led-rows, list-form, led, block-form}
 use Rattle.sheet.proofs.ReadingLaws.{strip-inv}
 use Rattle.sheet.proofs.Sound.{read-list-sound}
@@ -31,7 +31,7 @@ use Rattle.sheet.specs.declared.count.Read.{Read}
 use Rattle.sheet.specs.declared.count.Read.the-variants.{At, No}
 use Rattle.sheet.proofs.AllChars.{all-append, all-hashes}
 use Rattle.sheet.proofs.PageRead.{length-hashes}
-use Rattle.sheet.proofs.TestCount.{low-marks, weight-append, weight-ascii}
+use Rattle.sheet.proofs.TestCount.{ascii-marks, weight-append, weight-ascii}
 use Rattle.sheet.proofs.TestSays.{Got, answers, refuses}
 
 -- ---- a line and the tag after it
@@ -52,7 +52,7 @@ module _ (q s : List ℕ) where
 led-weight : (n : ℕ) (l : List Run) → weight (led n l) ≡ added (alike n) (weight (written-runs l))
 led-weight n l =
     weight-append (repeat n "#") (written-runs l)
-    ∙ ap (λ (w : Count). added w (weight (written-runs l))) (weight-ascii (repeat n "#") (all-hashes low low-marks n) ∙ ap alike (length-hashes n))
+    ∙ ap (λ (w : Count). added w (weight (written-runs l))) (weight-ascii (repeat n "#") (all-hashes is-ascii ascii-marks n) ∙ ap alike (length-hashes n))
 
 pub led-count : (n : ℕ) (l : List Run) {a b c : Count} → a ≡ alike n → b ≡ weight (written-runs l) → c ≡ added a b → c ≡ weight (led n l)
 led-count n l e f g = g ∙ cc (e, f) ∙ sym (led-weight n l)
@@ -64,7 +64,7 @@ says-as f g b e page at none r h = h
 says-as f g b e page at (some x) r h = (h .0, h .1 ∙ ap (At (h .0)) (e (x .0)), h .2)
 
 -- ---- a heading
-pub close-ascii : (n : ℕ) → n ≤ 6 → ascii (60 ∷ 47 ∷ 104 ∷ (48 + n) ∷ 62 ∷ []) ≡ true
+pub close-ascii : (n : ℕ) → n ≤ 6 → all is-ascii (60 ∷ 47 ∷ 104 ∷ (48 + n) ∷ 62 ∷ []) ≡ true
 close-ascii n h = rw (lt-ltb (48 + n) 0x80 (omega arith))
 
 heading-weight : (n : ℕ) (l : List Run) → weight (led (min n 3 + 3) l) ≡ weight (block-form (heading n l))
@@ -72,7 +72,7 @@ unfolding rows joined
 heading-weight n l =
     let p = str "\n\n" ++ (repeat (min n 3) "#" ++ str " ") in
     let q : weight p ≡ alike (min n 3 + 3) =
-    weight-ascii p (all-append low (repeat (min n 3) "#") (str " ") (all-hashes low low-marks (min n 3)) refl)
+    weight-ascii p (all-append is-ascii (repeat (min n 3) "#") (str " ") (all-hashes is-ascii ascii-marks (min n 3)) refl)
     ∙ ap (λ (m : ℕ). alike (suc (suc m))) (length-append (repeat (min n 3) "#") (str " ") ∙ ap (λ (m : ℕ). m + 1) (length-hashes (min n 3)))
     ∙ ap alike (omega arith) in
     led-weight (min n 3 + 3) l ∙ ap (λ (w : Count). added w (weight (written-runs l))) (sym q) ∙ sym (weight-append p (written-runs l))

@@ -6,15 +6,15 @@ use mathlib.Core.Path.{_≡_, refl, sym, _∙_, ap}
 use mathlib.Core.List.{List, [], _∷_, _++_, append-nil, append-assoc}
 use lib.ListN.{length, length-append}
 use Rattle.text.specs.Words.{str, repeat}
+use Rattle.text.specs.Chars.{is-ascii}
 use Rattle.text.specs.Decimal.{decimal}
 use Rattle.text.proofs.DecimalLaws.{decimal-small, decimal-large}
-use Rattle.sheet.specs.Says.{low}
 use Rattle.sheet.specs.Tree.{Run, Mark, Items, Item, alone, with, items}
 use Rattle.sheet.specs.Written.{Row, item, place, rows-from, lead, written-runs, written-row}
 use Rattle.sheet.specs.Weight.{weight, alike, added}
 use Rattle.sheet.specs.Forms.{led-rows, item-form, list-form, row-lead}
 use Rattle.sheet.specs.declared.count.Count.{Count}
-use Rattle.sheet.proofs.TestCount.{low-marks, counts, weight-append, weight-ascii}
+use Rattle.sheet.proofs.TestCount.{ascii-marks, counts, weight-append, weight-ascii}
 use Rattle.sheet.proofs.AllChars.{all-append, all-blanks, all-lead}
 
 -- ---- what stands before an item's line
@@ -24,7 +24,7 @@ indent-length (suc d) = let h = indent-length d in omega arith
 
 row-lead-weight : (d n : ℕ) → weight (row-lead d n) ≡ alike (1 + (d * 2 + length (lead n)))
 row-lead-weight d n =
-    weight-ascii (row-lead d n) (all-append low (repeat d "  ") (lead n) (all-blanks low low-marks d) (all-lead low low-marks n))
+    weight-ascii (row-lead d n) (all-append is-ascii (repeat d "  ") (lead n) (all-blanks is-ascii ascii-marks d) (all-lead is-ascii ascii-marks n))
     ∙ ap (λ (k : ℕ). alike (suc k)) (length-append (repeat d "  ") (lead n) ∙ ap (λ (k : ℕ). k + length (lead n)) (indent-length d))
     ∙ ap alike (omega arith)
 

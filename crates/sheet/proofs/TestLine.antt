@@ -8,7 +8,7 @@ use mathlib.Core.Option.{none}
 use mathlib.Core.List.{List, [], _∷_, _++_, append-nil, append-assoc}
 use lib.Dec.{eqb}
 use lib.ListN.{length, length-append}
-use Rattle.text.specs.Chars.{is-letter}
+use Rattle.text.specs.Chars.{is-ascii, is-letter}
 use Rattle.text.specs.Utf8.{size}
 use Rattle.text.proofs.Laws.{size-append}
 use Rattle.records.specs.Format.{non-empty}
@@ -18,7 +18,7 @@ use Rattle.sheet.specs.Grammar.{touch, apart, first-letter, last-no-blan
 use Rattle.sheet.specs.Reader.{one-run, line}
 use Rattle.sheet.specs.Written.{escaped, sign, written-run, written-runs}
 use Rattle.sheet.specs.Weight.{weight, alike, added}
-use Rattle.sheet.specs.Says.{from, Says, low}
+use Rattle.sheet.specs.Says.{from, Says}
 use Rattle.sheet.specs.Keeps.{first-of, last-of, gist, coded, last-kind, runs-of, joined-by}
 use Rattle.sheet.specs.declared.count.Count.{Count}
 use Rattle.sheet.specs.declared.count.Read.the-variants.{At, No}
@@ -27,7 +27,7 @@ use Rattle.sheet.specs.declared.line.Kind.the-variants.{Strong}
 use Rattle.sheet.specs.declared.line.Gist.{Gist}
 use Rattle.sheet.specs.declared.line.Runs.{Runs}
 use Rattle.sheet.proofs.AllChars.{all-sign}
-use Rattle.sheet.proofs.TestCount.{low-marks, counts, size-ascii, weight-append}
+use Rattle.sheet.proofs.TestCount.{ascii-marks, counts, size-ascii, weight-append}
 use Rattle.sheet.proofs.TestGist.{some-snoc}
 use Rattle.sheet.proofs.TestMany.{every, Read-to, to-none, to-more, to-stop}
 use Rattle.sheet.proofs.TestSays.{answers, refuses}
@@ -50,7 +50,7 @@ sign-short T.code = omega arith
 weight-run : (k : T.Kind) (t : List ℕ) → weight (written-run (run k t)) ≡ added (alike (2 * length (sign k))) (weight (escaped t))
 unfolding weight
 weight-run k t =
-    let s = size-ascii (sign k) (all-sign low low-marks k) in
+    let s = size-ascii (sign k) (all-sign is-ascii ascii-marks k) in
     counts (omega (arith, size-append (sign k) (escaped t ++ sign k), size-append (escaped t) (sign k)))
     (omega (arith, length-append (sign k) (escaped t ++ sign k), length-append (escaped t) (sign k)))
 

@@ -11,24 +11,25 @@ use borrow.Author.Tests.{eqb-true, eq-eqb, ne-eqb, ltb-true, ltb-false}
 use lib.Dec.{eqb, ltb}
 use lib.ListN.{length, drop, length-drop}
 use lib.Seq.{drop-drop}
-use Rattle.text.specs.Words.{starts-with}
+use Rattle.text.specs.Words.{all, starts-with}
+use Rattle.text.specs.Chars.{is-ascii}
 use Rattle.text.specs.Utf8.{chars}
 use Rattle.text.proofs.Tests.{decide, and-true}
 use Rattle.text.proofs.Laws.{chars-nil, advance-end}
 use Rattle.text.proofs.AsciiLaws.{chars-ascii, chars-high}
 use Rattle.sheet.specs.Reading.{strip}
-use Rattle.sheet.specs.Says.{from, ascii, Tagged}
+use Rattle.sheet.specs.Says.{from, Tagged}
 
 -- what is left after the tag, or that it does not stand there
 abbrev After : List ℕ → List ℕ → Bool → Type 0
 After t s true = (strip t (chars s) ≡ some (chars (drop (length t) s))) × (length t ≤ length s)
 After t s false = strip t (chars s) ≡ none
 
-strip-starts : (t s : List ℕ) → ascii t ≡ true → After t s (starts-with t s)
+strip-starts : (t s : List ℕ) → all is-ascii t ≡ true → After t s (starts-with t s)
 strip-starts [] s h = (refl, omega arith)
 strip-starts (a ∷ t) [] h = rw chars-nil
 strip-starts (a ∷ t) (b ∷ s) h =
-    let g = and-true (ltb a 0x80) (ascii t) h in
+    let g = and-true (ltb a 0x80) (all is-ascii t) h in
     go (ltb-true a 0x80 (g .0)) (eqb b a) refl (starts-with t s) (strip-starts t s (g .1))
   where
     same : a < 0x80 → b ≡ a → strip (a ∷ t) (chars (b ∷ s)) ≡ strip t (chars s)
@@ -46,7 +47,7 @@ strip-starts (a ∷ t) (b ∷ s) h =
     go l false e y q = other l (λ z. let w : _≡_ {A = Bool} true false = sym (eq-eqb b a (sym z)) ∙ e in let v : _≡_ {A = ℕ} 0 1 = cc in omega arith)
 
 -- what `text::starts_with` says of a tag that is ASCII
-pub tagged : (t page : List ℕ) (at : ℕ) → ascii t ≡ true → {r : Bool} → r ≡ starts-with t (drop at page) → Tagged t page at r
+pub tagged : (t page : List ℕ) (at : ℕ) → all is-ascii t ≡ true → {r : Bool} → r ≡ starts-with t (drop at page) → Tagged t page at r
 tagged t page at h {r} e = subst (Tagged t page at) (sym e) (go (starts-with t (drop at page)) (strip-starts t (drop at page) h))
   where
     go : (r : Bool) → After t (drop at page) r → Tagged t page at r
@@ -65,7 +66,7 @@ pub record Stands (t page : List ℕ) (at : ℕ) : Type 0 where
   pub within : at ≤ length page → at + length t ≤ length page
   pub inside : 0 < length t → at + length t ≤ length page
 
-module _ (t page : List ℕ) (at : ℕ) (h : ascii t ≡ true) {r : Bool} (e : r ≡ starts-with t (drop at page)) where
+module _ (t page : List ℕ) (at : ℕ) (h : all is-ascii t ≡ true) {r : Bool} (e : r ≡ starts-with t (drop at page)) where
   pub stands : r ≡ true → Stands t page at
   stands f =
       let q = is-tag t page at (tagged t page at h e) f in

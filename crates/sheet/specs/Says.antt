@@ -5,9 +5,7 @@ use mathlib.Core.Path.{_≡_}
 use mathlib.Core.Bool.{Bool, true, false}
 use mathlib.Core.Option.{none, some}
 use mathlib.Core.List.{List}
-use lib.Dec.{ltb}
 use lib.ListN.{length, drop}
-use Rattle.text.specs.Words.{all}
 use Rattle.text.specs.Utf8.{chars}
 use Rattle.sheet.specs.declared.count.Read.{Read}
 use Rattle.sheet.specs.declared.count.Read.the-variants.{At, No}
@@ -29,13 +27,6 @@ pub record Past (page : List ℕ) (at next : ℕ) (rest : List ℕ) : Type 0 whe
 abbrev pub Says : {A : Type 0} → (A → List ℕ) → List ℕ → ℕ → Answer A → Read → Type 0
 Says form page at none r = r ≡ No
 Says form page at (some x) r = (next : ℕ) × (r ≡ At next (weight (form (x .0)))) × Past page at next (x .1)
-
--- tags are ASCII, so they are found by their bytes
-abbrev pub low : ℕ → Bool
-low a = ltb a 0x80
-
-abbrev pub ascii : List ℕ → Bool
-ascii t = all low t
 
 -- a tag at an offset: what is left after it
 abbrev pub Tagged : List ℕ → List ℕ → ℕ → Bool → Type 0

@@ -3,7 +3,9 @@ ghost use mathlib.Core.Path.{_≡_};
 ghost use mathlib.Core.Bool.{true};
 ghost use Prim.Native.Nat.{_-_, min};
 ghost use Rattle.sheet.specs.Reader.{closed-by, headed, block};
-ghost use Rattle.sheet.specs.Says.{from, ascii, Says};
+ghost use Rattle.text.specs.Words.{all};
+ghost use Rattle.text.specs.Chars.{is-ascii};
+ghost use Rattle.sheet.specs.Says.{from, Says};
 ghost use Rattle.sheet.specs.Forms.{led, block-form};
 ghost use Rattle.sheet.specs.Weight.{judged};
 ghost use Rattle.sheet.specs.Calls.{sheet-call, answer};
@@ -31,7 +33,7 @@ pub enum Verdict {
 
 // A line and the tag after it, counted with the `lead` ASCII characters that its written form has before it.
 fn closed_by(page: &[u8], at: usize, tag: &[u8], lead: usize) -> Read
-    requires { ⌜ ascii (now tag) ≡ true ⌝ }
+    requires { ⌜ all is-ascii (now tag) ≡ true ⌝ }
     ensures { λ r. ⌜ Says (led lead) (now (page .entry)) at (closed-by (now (tag .entry)) (from (now (page .entry)) at)) r ⌝ }
 {
     let Read::At { next, count } = line(page, at) else {

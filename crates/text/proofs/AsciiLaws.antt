@@ -43,12 +43,10 @@ ascii-append (x ∷ xs) ys p q = (p .0, ascii-append xs ys (p .1) q)
 
 -- ASCII as a test
 pub ascii-true : (xs : List ℕ) → all is-ascii xs ≡ true → Ascii xs
-unfolding is-ascii
 ascii-true [] e = tt
 ascii-true (x ∷ xs) e = let p = and-true (is-ascii x) (all is-ascii xs) e in (ltb-true x 0x80 (p .0), ascii-true xs (p .1))
 
 pub ascii-is : (xs : List ℕ) → Ascii xs → all is-ascii xs ≡ true
-unfolding is-ascii
 ascii-is [] h = refl
 ascii-is (x ∷ xs) h = simp (lt-ltb x 0x80 (h .0), ascii-is xs (h .1))
 
@@ -112,7 +110,6 @@ starts-nil (p ∷ ps) = sym (eqb·suc-zero (length ps))
 
 -- ---- a run of ASCII bytes
 pub low-ascii : (x : ℕ) → x < 0x80 → is-ascii x ≡ true
-unfolding is-ascii
 low-ascii x h = lt-ltb x 0x80 h
 
 pub one-ascii : (s : List ℕ) (i : ℕ) → i < length s → getD s i 0 < 0x80 → all is-ascii (take 1 (drop i s)) ≡ true
@@ -124,7 +121,7 @@ ascii-scalar x h = rw (le-leb x 0xD7FF (omega arith))
 
 -- ASCII is UTF-8, so what follows a run of it decides
 pub run-scalar : (s : List ℕ) → all is-scalar (chars s) ≡ all is-scalar (chars (drop (length (take-while is-ascii s)) s))
-unfolding take-while is-ascii
+unfolding take-while
 run-scalar [] = refl
 run-scalar (x ∷ s) =
     on (λ (l : List ℕ). all is-scalar (chars (x ∷ s)) ≡ all is-scalar (chars (drop (length l) (x ∷ s)))) (ltb x 0x80)
@@ -138,7 +135,6 @@ run-to s i j r =
 
 -- ---- from byte i, where character k stands, on over ASCII
 pub pos-ascii : (m : ℕ) (s : List ℕ) (i k : ℕ) → Pos s i k → i + m ≤ length s → all is-ascii (take m (drop i s)) ≡ true → Pos s (i + m) (k + m)
-unfolding is-ascii
 pos-ascii zero s i k p l h = rw (add-zero i, add-zero k) p
 pos-ascii (suc m) s i k p l h =
     let b : i < length s = omega arith in

@@ -24,7 +24,7 @@ is-control c = leb c 31 || within 127 159 c
 unfoldable pub is-scalar : ℕ → Bool
 is-scalar c = leb c 0xD7FF || within 0xE000 0x10FFFF c
 
-unfoldable pub is-ascii : ℕ → Bool
+abbrev pub is-ascii : ℕ → Bool
 is-ascii c = ltb c 0x80
 
 abbrev pub Ascii : List ℕ → Type 0

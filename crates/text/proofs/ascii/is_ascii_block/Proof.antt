@@ -32,7 +32,6 @@ loop-less : tie.Need-loop-less Inv-loop μ-loop
 loop-less c = omega arith
 
 loop-again : tie.Need-loop-again Inv-loop μ-loop
-unfolding is-ascii
 loop-again c =
     let a = c .before .before .before .args in
     (block-next is-ascii (a .s .now) (a .i) (c .before .before .loop .k) _ (omega arith) (c .before .before .loop .inv .0), omega arith)
