@@ -9,17 +9,17 @@ use mathlib.Core.Logic.{inl, ⊎-elim}
 use mathlib.Core.Option.{Option, none, some}
 use mathlib.Core.List.{List, [], _∷_, _++_, reverseAux}
 use lib.Dec.{eqb, ltb}
-use lib.ListN.{length, getD, take, drop}
-use lib.Seq.{take-suc}
+use lib.ListN.{length, getD, take, drop, length-drop}
+use lib.Seq.{take-suc, take-all, drop-drop}
 use borrow.Author.Tests.{eq-eqb, ne-eqb, eqb-true, ltb-true, lt-ltb, eqb-false, not-true, not-false}
 use Rattle.text.specs.Words.{if_then_else_, is, str, drop-while}
 use Rattle.text.specs.Chars.{within, is-space}
-use Rattle.text.specs.Trim.{trim-start}
+use Rattle.text.specs.Trim.{trim-start, start-of}
 use Rattle.text.specs.Utf8.{Scalars, utf8, size, chars, code-at}
 use Rattle.text.proofs.Tests.{decide, on, false-true, or-elim, or-neither, and-true, and-false}
 use Rattle.text.proofs.Utf8.{utf8-1}
 use Rattle.text.proofs.Laws.{turn-is, utf8-size, advance-end, advance-ascii, scalars-drop}
-use Rattle.text.proofs.TrimLaws.{space-ascii, start-space, start-other}
+use Rattle.text.proofs.TrimLaws.{space-ascii, start-space, start-other, start-le, drop-start, chars-start}
 use Rattle.text.proofs.Lists.{same-last}
 use Rattle.reference.specs.Unescape.{reference, unescape}
 use Rattle.reference.specs.Answers.{answer}
@@ -211,19 +211,14 @@ start-scalars [] h = subst Scalars start-nil h
 start-scalars (x ∷ xs) h =
     ⊎-elim (λ e. rw (start-space x xs e) (start-scalars xs (h .1))) (λ e. rw (start-other x xs e) h) (decide (is-space x))
 
--- the loop that looks for their end
-pub blank-is-space : is-space 32 ≡ true
-unfolding is-space
-blank-is-space = refl
-
-pub start-none : {cs : List ℕ} → cs ≡ [] → cs ≡ trim-start cs
-start-none q = q ∙ start-nil ∙ ap trim-start (sym q)
-
-pub start-stop : {x : ℕ} {xs cs : List ℕ} → cs ≡ x ∷ xs → is-space x ≡ false → cs ≡ trim-start cs
-start-stop {x} {xs} q e = q ∙ sym (start-other x xs e) ∙ ap trim-start (sym q)
-
-pub start-more : {x : ℕ} {xs cs : List ℕ} → cs ≡ x ∷ xs → is-space x ≡ true → trim-start xs ≡ trim-start cs
-start-more {x} {xs} q e = sym (start-space x xs e) ∙ ap trim-start (sym q)
+pub blanks-off : (raw : List ℕ) (i k : ℕ) → i ≤ length raw → k ≡ start-of (take (length raw - i) (drop i raw))
+    → (chars (drop (i + k) raw) ≡ trim-start (chars (drop i raw))) × ((i ≤ i + k) × (i + k ≤ length raw))
+blanks-off raw i k l e =
+    let w : take (length raw - i) (drop i raw) ≡ drop i raw = take-all (length raw - i) (drop i raw) (omega (arith, length-drop i raw)) in
+    let q : k ≡ start-of (drop i raw) = e ∙ ap start-of w in (
+      ap chars (sym (drop-drop k i raw) ∙ ap (λ (n : ℕ). drop n (drop i raw)) q ∙ drop-start (drop i raw)) ∙ chars-start (drop i raw),
+      (omega arith, omega (arith, start-le (drop i raw), length-drop i raw)),
+    )
 
 pub blank-out : (pre : Bool) (x : ℕ) → blank pre x ≡ true → pre ≡ false
 unfolding blank

@@ -203,31 +203,10 @@ impl Pen {
 
 // Where the spaces from i on end. After a first space they change nothing.
 fn blanks_end(raw: &[u8], i: usize) -> usize
-    requires { ⌜ (i ≤ length (now raw)) × Scalars (chars (drop i (now raw))) ⌝ }
+    requires { ⌜ i ≤ length (now raw) ⌝ }
     ensures { λ r. ⌜ (chars (drop r (now (raw .entry))) ≡ trim-start (chars (drop i (now (raw .entry))))) × ((i ≤ r) × (r ≤ length (now (raw .entry)))) ⌝ }
 {
-    let mut j = i;
-    while j < raw.len() {
-        let b = raw[j];
-        // the most frequent one first
-        if b == b' ' {
-            j += 1;
-            continue;
-        }
-        if b < 0x80 {
-            if !text::is_space(b as u32) {
-                return j;
-            }
-            j += 1;
-            continue;
-        }
-        let v = above_ascii(raw, j);
-        if !text::is_space(v.code) {
-            return j;
-        }
-        j = v.next;
-    }
-    j
+    i + text::start_of(&raw[i..])
 }
 
 // A pen, and where the text goes on.

@@ -10,15 +10,16 @@ use native.Mathlib.Numerals.{add-one}
 use native.Mathlib.Omega.{arith}
 use lib.Dec.{ltb, eqb, eqb·suc-zero}
 use lib.ListN.{length, getD, take, drop}
-use lib.Seq.{drop-cons, drop-drop, getD-take}
+use lib.Seq.{drop-cons, getD-take}
 use native.Mathlib.Nat.{add-zero}
 use Rattle.text.specs.Utf8.{encode, chars, char, size-of, size}
-use Rattle.text.specs.Words.{starts-with, all, take-while}
+use Rattle.text.specs.Words.{starts-with, all}
 use Rattle.text.specs.Run.{RunTo}
 use Rattle.text.specs.Chars.{is-digit, is-ascii, is-scalar, Ascii}
 use Rattle.text.proofs.Tests.{decide, on, and-true, and-false, false-true, within-above}
 use Rattle.text.proofs.Utf8.{utf8-1, char-1, char-ascii}
 use Rattle.text.proofs.Laws.{Next, next-is, Pos, pos-next, chars-nil, chars-at, size-encode}
+use Rattle.text.proofs.RunLaws.{run-same}
 
 -- an ASCII byte is its own character
 pub chars-ascii : (x : ℕ) (xs : List ℕ) → x < 0x80 → chars (x ∷ xs) ≡ x ∷ chars xs
@@ -120,18 +121,8 @@ unfolding is-scalar
 ascii-scalar x h = rw (le-leb x 0xD7FF (omega arith))
 
 -- ASCII is UTF-8, so what follows a run of it decides
-pub run-scalar : (s : List ℕ) → all is-scalar (chars s) ≡ all is-scalar (chars (drop (length (take-while is-ascii s)) s))
-unfolding take-while
-run-scalar [] = refl
-run-scalar (x ∷ s) =
-    on (λ (l : List ℕ). all is-scalar (chars (x ∷ s)) ≡ all is-scalar (chars (drop (length l) (x ∷ s)))) (ltb x 0x80)
-    (λ h. rw (chars-ascii x s (ltb-true x 0x80 h), ascii-scalar x (ltb-true x 0x80 h)) (run-scalar s))
-    (λ _. refl)
-
 pub run-to : (s : List ℕ) (i j : ℕ) → RunTo is-ascii s i j → all is-scalar (chars (drop i s)) ≡ all is-scalar (chars (drop j s))
-run-to s i j r =
-    run-scalar (drop i s)
-    ∙ rw (drop-drop (length (take-while is-ascii (drop i s))) i s, r .run, ← drop-drop (length (take-while is-ascii (drop j s))) j s) (sym (run-scalar (drop j s)))
+run-to = run-same is-ascii (λ (s : List ℕ). all is-scalar (chars s)) (λ x s h. rw (chars-ascii x s (ltb-true x 0x80 h), ascii-scalar x (ltb-true x 0x80 h)))
 
 -- ---- from byte i, where character k stands, on over ASCII
 pub pos-ascii : (m : ℕ) (s : List ℕ) (i k : ℕ) → Pos s i k → i + m ≤ length s → all is-ascii (take m (drop i s)) ≡ true → Pos s (i + m) (k + m)

@@ -110,3 +110,15 @@ module _ (p : ℕ → Bool) where
 
     pub at-end : (j : ℕ) → RunTo p s i j → length s ≤ j → i + length (take-while p (drop i s)) ≡ j
     at-end j h l = let r = h .run in let z = ap length (run-end s j l) in omega arith
+
+-- what each element of a run leaves as it is, the run does
+module _ (p : ℕ → Bool) {A : Type 0} (f : List ℕ → A) (skips : (x : ℕ) (s : List ℕ) → p x ≡ true → f (x ∷ s) ≡ f s) where
+  run-skipped : (s : List ℕ) → f s ≡ f (drop (length (take-while p s)) s)
+  unfolding take-while
+  run-skipped [] = refl
+  run-skipped (x ∷ s) = on (λ (l : List ℕ). f (x ∷ s) ≡ f (drop (length l) (x ∷ s))) (p x) (λ h. skips x s h ∙ run-skipped s) (λ _. refl)
+
+  pub run-same : (s : List ℕ) (i j : ℕ) → RunTo p s i j → f (drop i s) ≡ f (drop j s)
+  run-same s i j r =
+      run-skipped (drop i s)
+      ∙ rw (drop-drop (length (take-while p (drop i s))) i s, r .run, ← drop-drop (length (take-while p (drop j s))) j s) (sym (run-skipped (drop j s)))

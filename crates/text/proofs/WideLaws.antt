@@ -12,12 +12,15 @@ use lib.ListN.{length, getD, drop}
 use Rattle.text.specs.Words.{if_then_else_}
 use Rattle.text.specs.Chars.{within, is-space}
 use Rattle.text.specs.Utf8.{tail, starts3, given, join, char-of, char, char-size, size-of, stray, chars}
-use Rattle.text.specs.Trim.{trim-start, wide-space, is-space-of, space-at}
+use Rattle.text.specs.Trim.{trim-start, is-blank, wide-space, is-space-of, space-at}
+use Rattle.text.specs.Run.{RunTo}
 use Rattle.text.specs.declared.Char.{Char}
 use Rattle.text.specs.declared.Char.the-variants.{At, Bad, End}
 use Rattle.text.proofs.Tests.{decide, on, false-true, and-true, and-false, or-elim, within-true, within-is, within-above}
 use Rattle.text.proofs.Utf8.{Three, value2, value3, value4, by-rows, char-drop}
 use Rattle.text.proofs.Laws.{advance, advance-ascii, advance-bad}
+use Rattle.text.proofs.AsciiLaws.{chars-ascii}
+use Rattle.text.proofs.RunLaws.{run-same}
 use Rattle.text.proofs.TrimLaws.{space-top, space-near, space-ascii, start-space, start-other}
 
 -- ---- no space
@@ -126,15 +129,19 @@ wide-is Bad k h = sym (ne-eqb 0 k (omega arith))
 wide-is End k h = sym (ne-eqb 0 k (omega arith))
 
 -- ---- ASCII spaces
-pub blank-yes : (b : ℕ) → within 9 13 b || eqb b 32 ≡ true → (b < 0x80) × (is-space b ≡ true)
+pub blank-yes : (b : ℕ) → is-blank b ≡ true → (b < 0x80) × (is-space b ≡ true)
 blank-yes b e =
     let l : b < 0x80 = or-elim (within 9 13 b) (eqb b 32) (λ p. omega (arith, within-true 9 13 b p)) (λ p. omega (arith, eqb-true b 32 p)) e in
     (l, space-ascii b l ∙ e)
 
-pub blank-no : (b : ℕ) → b < 0x80 → within 9 13 b || eqb b 32 ≡ false → is-space b ≡ false
+pub blank-no : (b : ℕ) → b < 0x80 → is-blank b ≡ false → is-space b ≡ false
 blank-no b l e = space-ascii b l ∙ e
 
 -- ---- trimming the start
+-- a run of ASCII spaces goes
+pub blanks-gone : (s : List ℕ) (i j : ℕ) → RunTo is-blank s i j → trim-start (chars (drop i s)) ≡ trim-start (chars (drop j s))
+blanks-gone = run-same is-blank (λ (s : List ℕ). trim-start (chars s)) (λ x s h. let y = blank-yes x h in ap trim-start (chars-ascii x s (y .0)) ∙ start-space x (chars s) (y .1))
+
 -- a byte that is not ASCII starts a character of more bytes, or none
 more : (a b c d : ℕ) → 0x80 ≤ a → (char-size (char-of a b c d) ≡ 0) ⊎ (1 < char-size (char-of a b c d))
 more a b c d h =
@@ -184,10 +191,10 @@ module _ (s : List ℕ) (i : ℕ) (h : i < length s) where
   stays-by Bad q z m g = let p = advance-bad s i q in rw (p .1) (start-other _ _ (space-top (stray (getD s i 0)) (omega arith)))
   stays-by End q z m g = absurd (omega arith)
 
-  stays-low : within 9 13 (getD s i 0) || eqb (getD s i 0) 32 ≡ false → getD s i 0 < 0x80 → Stays
+  stays-low : is-blank (getD s i 0) ≡ false → getD s i 0 < 0x80 → Stays
   stays-low b l = rw (advance-ascii s i h l) (start-other _ _ (blank-no _ l b))
 
-  pub none-gone : within 9 13 (getD s i 0) || eqb (getD s i 0) 32 ≡ false → wide-space (char (drop i s)) ≡ 0 → Stays
+  pub none-gone : is-blank (getD s i 0) ≡ false → wide-space (char (drop i s)) ≡ 0 → Stays
   none-gone b w =
       ⊎-elim (λ e. stays-low b (ltb-true (getD s i 0) 0x80 e))
       (λ e. stays-by (char (drop i s)) refl w (rw (char-drop s i h) (more _ _ _ _ (ltb-false (getD s i 0) 0x80 e))) (rw (char-drop s i h) (there _ _ _ _)))

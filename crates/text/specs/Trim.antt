@@ -1,12 +1,12 @@
 -- Spaces taken off the ends of a text: of its characters, and as offsets into its bytes.
 -- Assumes nothing.
 use Prim.Native.Nat.{ℕ, _-_}
-use mathlib.Core.Bool.{Bool, false, _&&_}
+use mathlib.Core.Bool.{Bool, false, _&&_, _||_}
 use mathlib.Core.List.{List}
 use lib.Dec.{ltb, eqb}
 use lib.ListN.{length, drop}
 use Rattle.text.specs.Words.{if_then_else_, drop-while, trim-end-matches, trim-matches}
-use Rattle.text.specs.Chars.{is-space}
+use Rattle.text.specs.Chars.{within, is-space}
 use Rattle.text.specs.Utf8.{encode, chars, char}
 use Rattle.text.specs.declared.Char.{Char}
 use Rattle.text.specs.declared.Char.the-variants.{At, Bad, End}
@@ -26,6 +26,10 @@ start-of bs = length bs - length (encode (trim-start (chars bs)))
 
 unfoldable pub end-of : List ℕ → ℕ
 end-of bs = length (encode (trim-end (chars bs)))
+
+-- an ASCII space
+abbrev pub is-blank : ℕ → Bool
+is-blank b = within 9 13 b || eqb b 32
 
 -- how many bytes a space has that is not ASCII; 0 for anything else
 abbrev pub wide-space : Char → ℕ

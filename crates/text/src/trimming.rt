@@ -1,12 +1,12 @@
 // Spaces taken off the ends.
 ghost use mathlib.Core.Path.{_≡_};
-ghost use mathlib.Core.Bool.{_||_};
-ghost use Prim.Native.Nat.{_-_, _≤_, _<_};
-ghost use lib.Dec.{eqb};
-ghost use lib.ListN.{length, getD, drop};
-ghost use Rattle.text.specs.Chars.{within};
+ghost use mathlib.Core.Bool.{true};
+ghost use Prim.Native.Nat.{_+_, _-_, _≤_, _<_};
+ghost use lib.ListN.{length, getD, take, drop};
+ghost use Rattle.text.specs.Words.{all};
+ghost use Rattle.text.specs.Run.{RunTo};
 ghost use Rattle.text.specs.Utf8.{chars, encode, char};
-ghost use Rattle.text.specs.Trim.{trim, start-of, end-of, wide-space, space-before};
+ghost use Rattle.text.specs.Trim.{trim, start-of, end-of, is-blank, wide-space, space-before};
 use crate::classes::is_space;
 use crate::decoding::byte;
 use crate::decoding::is_tail;
@@ -16,9 +16,42 @@ use crate::decoding::wide;
 
 // An ASCII space.
 fn is_blank(b: u8) -> bool
-    ensures { λ r. ⌜ r ≡ within 9 13 b || eqb b 32 ⌝ }
+    ensures { λ r. ⌜ r ≡ is-blank b ⌝ }
 {
     ((9 <= b) & (b <= 13)) | (b == 32)
+}
+
+// Whether the 32 bytes from i on are ASCII spaces, tested as in `is_ascii_block`.
+fn is_blank_block(s: &[u8], i: usize) -> bool
+    requires { ⌜ i + 32 ≤ length (now s) ⌝ }
+    ensures { λ r. ⌜ r ≡ all is-blank (take 32 (drop i (now (s .entry)))) ⌝ }
+{
+    let mut blank = true;
+    let mut k = 0;
+    while k < 32 {
+        let b = s[i + k];
+        blank = blank & is_blank(b);
+        k += 1;
+    }
+    blank
+}
+
+// An offset after i up to which all are ASCII spaces, as the byte at i is. Blocks are tried only from multiples of 32 on.
+fn past_blank(s: &[u8], i: usize) -> usize
+    requires { ⌜ (i < length (now s)) × (is-blank (getD (now s) i 0) ≡ true) ⌝ }
+    ensures { λ r. ⌜ RunTo is-blank (now (s .entry)) i r × (i < r) ⌝ }
+{
+    let mut j = i + 1;
+    if j % 32 != 0 {
+        return j;
+    }
+    while 32 <= s.len() - j {
+        if !is_blank_block(s, j) {
+            return j;
+        }
+        j += 32;
+    }
+    j
 }
 
 // How many bytes the space at i has that is not ASCII; 0 where none stands there. Only C2, E1, E2 and E3 start one.
@@ -53,7 +86,7 @@ pub fn start_of(s: &[u8]) -> usize
     while i < s.len() {
         let b = s[i];
         if is_blank(b) {
-            i += 1;
+            i = past_blank(s, i);
             continue;
         }
         let k = wide_space(s, i);

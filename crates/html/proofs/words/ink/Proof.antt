@@ -69,7 +69,7 @@ pause-requires : tie.Need-pause-requires Inv-loop μ-loop
 pause-requires c κs = omega (arith, roomy (c .before .before .before .before .before) (c .before .before .before .unescaped .result) (c .before .before .before .unescaped .ensures))
 
 blanks-end-requires : tie.Need-blanks-end-requires Inv-loop μ-loop
-blanks-end-requires c κs = (c .before .before .before .before .unescaped .ensures .bound, c .before .before .before .before .unescaped .ensures .valid)
+blanks-end-requires c κs = c .before .before .before .before .unescaped .ensures .bound
 
 loop-less : tie.Need-loop-less Inv-loop μ-loop
 loop-less c =

@@ -2,15 +2,15 @@
 -- Assumes nothing.
 use Prim.Native.Nat.{_+_, _-_, _≤_}
 use native.Mathlib.Omega.{arith}
-use mathlib.Core.Path.{_≡_, refl, sym, ap, _∙_}
+use mathlib.Core.Path.{_≡_, refl, sym, _∙_}
 use borrow.Author.Needs.{needs}
 use lib.ListN.{length, drop}
 use Rattle.text.specs.Words.{drop-while}
 use Rattle.text.specs.Utf8.{chars}
 use Rattle.text.specs.Trim.{trim-start}
-use Rattle.text.proofs.Laws.{advance-ascii, advance-end}
-use Rattle.text.proofs.TrimLaws.{start-at, start-space}
-use Rattle.text.proofs.WideLaws.{blank-yes, wide-gone, none-gone}
+use Rattle.text.proofs.Laws.{advance-end}
+use Rattle.text.proofs.TrimLaws.{start-at}
+use Rattle.text.proofs.WideLaws.{blanks-gone, wide-gone, none-gone}
 use Rattle.text.proofs.trimming.start_of.Statement.{statement}
 use Rattle.text.proofs.trimming.start_of.Tie as tie
 
@@ -29,16 +29,14 @@ shared-slice-read-b c = omega arith
 is-blank-requires : tie.Need-is-blank-requires Inv-loop μ-loop
 is-blank-requires c κs = search needs
 
-add-i : tie.Need-add-i Inv-loop μ-loop
-add-i c = omega arith
+past-blank-requires : tie.Need-past-blank-requires Inv-loop μ-loop
+past-blank-requires c κs = (c .before .before .before .loop-test .taken, sym (c .before .is-blank .ensures) ∙ c .if1 .taken)
 
 loop-less : tie.Need-loop-less Inv-loop μ-loop
-loop-less c = omega arith
+loop-less c = omega (arith, c .past-blank .ensures .1, c .past-blank .ensures .0 .high)
 
 loop-again : tie.Need-loop-again Inv-loop μ-loop
-loop-again c =
-    let y = blank-yes _ (sym (c .before .is-blank .ensures) ∙ c .if1 .taken) in
-    (sym (ap trim-start (advance-ascii (c .before .before .before .before .before .before .args .s .now) (c .before .before .before .before .loop .i) (c .before .before .before .loop-test .taken) (y .0)) ∙ start-space _ _ (y .1)) ∙ c .before .before .before .before .loop .inv .0, omega arith)
+loop-again c = (sym (blanks-gone _ _ _ (c .past-blank .ensures .0)) ∙ c .before .before .before .before .before .loop .inv .0, c .past-blank .ensures .0 .high)
 
 wide-space-requires : tie.Need-wide-space-requires Inv-loop μ-loop
 wide-space-requires c κs = c .before .before .before .loop-test .taken
@@ -54,8 +52,8 @@ gone : (c : tie.Else2 Inv-loop μ-loop)
     × (trim-start (chars (drop (c .before .before .before .before .before .before .loop .i) (c .before .before .before .before .before .before .before .before .args .s .now))) ≡ trim-start (chars (drop (c .before .before .before .before .before .before .loop .i + c .before .wide-space .result) (c .before .before .before .before .before .before .before .before .args .s .now))))
 gone c = wide-gone (c .before .before .before .before .before .before .before .before .args .s .now) (c .before .before .before .before .before .before .loop .i) (c .before .before .before .before .before .loop-test .taken) _ (c .before .wide-space .ensures) (omega arith)
 
-add-i-2 : tie.Need-add-i-2 Inv-loop μ-loop
-add-i-2 c = omega (arith, gone c .0)
+add-i : tie.Need-add-i Inv-loop μ-loop
+add-i c = omega (arith, gone c .0)
 
 loop-less-2 : tie.Need-loop-less-2 Inv-loop μ-loop
 loop-less-2 c = omega (arith, gone c .0)
@@ -78,12 +76,12 @@ start-of-spec =
     loop-holds
     shared-slice-read-b
     is-blank-requires
-    add-i
+    past-blank-requires
     loop-less
     loop-again
     wide-space-requires
     returns
-    add-i-2
+    add-i
     loop-less-2
     loop-again-2
     returns-2)
