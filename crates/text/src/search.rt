@@ -67,13 +67,13 @@ pub fn find(s: &[u8], i: usize, b: u8) -> Found
     Found::Nowhere
 }
 
-// Whether a b c stand at none of the 32 places from i on, tested as in `is_ascii_block`. Asked only where i is a multiple of 32, so that a near place
+// Whether a b c stand at none of the 32 places from i on, tested as in `is_ascii_block`. Asked only where i is a multiple of 8, so that a near place
 // is found without it.
 fn is_free_block(s: &[u8], i: usize, a: u8, b: u8, c: u8) -> bool
     requires { ⌜ i ≤ length (now s) ⌝ }
     ensures { λ r. ⌜ (r ≡ true → SeekTo (a ∷ b ∷ c ∷ []) (now (s .entry)) i (i + 32)) ⌝ }
 {
-    if i % 32 != 0 {
+    if i % 8 != 0 {
         return false;
     }
     if s.len() - i < 34 {
