@@ -3,6 +3,7 @@ pub mod Tests
 pub mod Utf8
 pub mod StartLaws
 pub mod Laws
+pub mod BesideLaws
 pub mod RunLaws
 pub mod TrimLaws
 pub mod WideLaws

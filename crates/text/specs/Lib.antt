@@ -12,3 +12,4 @@ pub mod Decimal
 pub mod Outcome
 -- What the contracts of the inner functions say.
 pub mod Run
+pub mod Beside

@@ -7,6 +7,7 @@ ghost use Rattle.text.specs.Words.{if_then_else_};
 ghost use Rattle.text.specs.Utf8.{tail, starts3, starts4, join, char-of, char, size-of, char-size, char-code, FourAt, code-at, is-utf8};
 use crate::Char;
 use crate::ascii::past_ascii;
+use crate::beside::past_block;
 use crate::classes::within;
 
 // The byte at i, or 0 past the end.
@@ -193,6 +194,11 @@ pub fn is_utf8(s: &[u8]) -> bool
     while 8 < s.len() - i {
         if s[i] < 0x80 {
             i = past_ascii(s, i);
+            continue;
+        }
+        let j = past_block(s, i);
+        if j != i {
+            i = j;
             continue;
         }
         let n = char_size(s, i);

@@ -1,5 +1,6 @@
 // Text as UTF-8 bytes.
 mod ascii;
+mod beside;
 mod classes;
 mod decoding;
 mod encoding;

@@ -36,27 +36,37 @@ loop-less c = omega (arith, c .past-ascii .ensures .1, c .past-ascii .ensures .0
 loop-again : tie.Need-loop-again Inv-loop μ-loop
 loop-again c = (c .before .before .before .before .loop .inv .0 ∙ run-to _ _ _ (c .past-ascii .ensures .0), c .past-ascii .ensures .0 .high)
 
+past-block-requires : tie.Need-past-block-requires Inv-loop μ-loop
+past-block-requires c κs = omega arith
+
+loop-less-2 : tie.Need-loop-less-2 Inv-loop μ-loop
+loop-less-2 c = let h = c .before .past-block .ensures .1 in let l = h .0 in let g = h .1 in let n = c .if2 .taken in omega arith
+
+loop-again-2 : tie.Need-loop-again-2 Inv-loop μ-loop
+unfolding is-utf8
+loop-again-2 c = let h = c .before .past-block .ensures in (c .before .before .before .before .before .loop .inv .0 ∙ h .0, h .1 .1)
+
 char-size-requires : tie.Need-char-size-requires Inv-loop μ-loop
 char-size-requires c κs = omega arith
 
 returns : tie.Need-returns Inv-loop μ-loop
 unfolding is-utf8
-returns c = sym (c .before .before .before .before .before .loop .inv .0 ∙ stuck (c .before .before .before .before .before .before .before .args .s .now) (c .before .before .before .before .before .loop .i) (omega arith) (no-char (c .before .before .before .before .before .before .before .args .s .now) (c .before .before .before .before .before .loop .i) (sym (c .before .char-size .ensures) ∙ c .if2 .taken)))
+returns c = sym (c .before .before .before .before .before .before .before .loop .inv .0 ∙ stuck (c .before .before .before .before .before .before .before .before .before .args .s .now) (c .before .before .before .before .before .before .before .loop .i) (omega arith) (no-char (c .before .before .before .before .before .before .before .before .before .args .s .now) (c .before .before .before .before .before .before .before .loop .i) (sym (c .before .char-size .ensures) ∙ c .if3 .taken)))
 
 -- the step over a character
-step : (c : tie.Else2 Inv-loop μ-loop) → (x : _) × Step (c .before .before .before .before .before .before .before .args .s .now) (c .before .before .before .before .before .loop .i) x (c .before .char-size .result)
-step c = some-char _ _ _ (c .before .char-size .ensures) (c .if2 .left)
+step : (c : tie.Else3 Inv-loop μ-loop) → (x : _) × Step (c .before .before .before .before .before .before .before .before .before .args .s .now) (c .before .before .before .before .before .before .before .loop .i) x (c .before .char-size .result)
+step c = some-char _ _ _ (c .before .char-size .ensures) (c .if3 .left)
 
 add-i : tie.Need-add-i Inv-loop μ-loop
 add-i c = let h = step c .1 in omega arith
 
-loop-less-2 : tie.Need-loop-less-2 Inv-loop μ-loop
-loop-less-2 c = let h = step c .1 in omega arith
+loop-less-3 : tie.Need-loop-less-3 Inv-loop μ-loop
+loop-less-3 c = let h = step c .1 in omega arith
 
-loop-again-2 : tie.Need-loop-again-2 Inv-loop μ-loop
-loop-again-2 c =
+loop-again-3 : tie.Need-loop-again-3 Inv-loop μ-loop
+loop-again-3 c =
     let h = step c .1 in
-    (c .before .before .before .before .before .loop .inv .0 ∙ rw (h .rest, scalar-is _ (h .scalar)), h .bound)
+    (c .before .before .before .before .before .before .before .loop .inv .0 ∙ rw (h .rest, scalar-is _ (h .scalar)), h .bound)
 
 is-utf8-from-requires : tie.Need-is-utf8-from-requires Inv-loop μ-loop
 is-utf8-from-requires c κs = c .before .loop .inv .1
@@ -77,10 +87,13 @@ is-utf8-spec =
     past-ascii-requires
     loop-less
     loop-again
+    past-block-requires
+    loop-less-2
+    loop-again-2
     char-size-requires
     returns
     add-i
-    loop-less-2
-    loop-again-2
+    loop-less-3
+    loop-again-3
     is-utf8-from-requires
     returns-2)
