@@ -10,10 +10,12 @@ use lib.Dec.{ltb, leb, eqb}
 use lib.ListN.{length, getD, drop}
 use Rattle.text.specs.Words.{all, any, matches}
 use Rattle.text.specs.Utf8.{size, chars}
+use Rattle.text.specs.Run.{RunTo}
 use Rattle.text.proofs.Tests.{decide, false-true, and-true, or-elim, or-right}
 use Rattle.text.proofs.Laws.{chars-nil, size-chars}
 use Rattle.text.proofs.AsciiLaws.{chars-ascii}
 use Rattle.text.proofs.Lists.{drop-next}
+use Rattle.text.proofs.RunLaws.{run-same}
 use Rattle.markdown.specs.Blocks.{is-rule}
 use Rattle.markdown.proofs.RunLaws.{ruled-low, all-chars}
 
@@ -74,6 +76,10 @@ module _ (s : List ℕ) where
 
     pub marks-some : marks (getD s i 0) ≡ true → any marks (drop i s) ≡ true
     marks-some e = rw (drop-next s i l, e)
+
+-- a run of ruled bytes changes nothing
+pub ruled-run : (s : List ℕ) (i j : ℕ) → RunTo ruled s i j → all ruled (drop i s) ≡ all ruled (drop j s)
+ruled-run = run-same ruled (all ruled) (λ x s e. rw e)
 
 -- a mark is ruled
 pub mark-ruled : (x : ℕ) → marks x ≡ true → ruled x ≡ true

@@ -2,8 +2,9 @@
 ghost use Prim.Native.Nat.{_+_, _-_, _*_, _<_, _≤_};
 ghost use mathlib.Core.Path.{_≡_};
 ghost use mathlib.Core.Bool.{false, _||_};
-ghost use lib.ListN.{length, drop};
+ghost use lib.ListN.{length, take, drop};
 ghost use Rattle.text.specs.Words.{all, starts, matches, take-while};
+ghost use Rattle.text.specs.Run.{RunTo};
 ghost use Rattle.markdown.specs.Parts.{Inside};
 ghost use Rattle.markdown.specs.Shape.{Trimmed, TitleIs, MarkerIs};
 ghost use Rattle.markdown.specs.Blocks.{is-rule};
@@ -71,7 +72,37 @@ fn is_ruled(b: u8) -> bool
     is_mark(b) | (b == b' ') | (b == b'|') | (b == b':')
 }
 
-// Whether from i on all bytes are such.
+// Whether the 32 bytes from i on are such. One test a byte and no way out of the loop, so that the compiler can take many bytes at once.
+fn is_ruled_block(line: &[u8], i: usize) -> bool
+    requires { ⌜ i + 32 ≤ length (now line) ⌝ }
+    ensures { λ r. ⌜ r ≡ all (matches "-*_ |:") (take 32 (drop i (now (line .entry)))) ⌝ }
+{
+    let mut ruled = true;
+    let mut k = 0;
+    while k < 32 {
+        let b = line[i + k];
+        ruled = ruled & is_ruled(b);
+        k += 1;
+    }
+    ruled
+}
+
+// Where the blocks of 32 such bytes from i on end.
+fn ruled_blocks(line: &[u8], i: usize) -> usize
+    requires { ⌜ i ≤ length (now line) ⌝ }
+    ensures { λ r. ⌜ RunTo (matches "-*_ |:") (now (line .entry)) i r ⌝ }
+{
+    let mut j = i;
+    while 32 <= line.len() - j {
+        if !is_ruled_block(line, j) {
+            return j;
+        }
+        j += 32;
+    }
+    j
+}
+
+// Whether from i on all bytes are such. Blocks are tried only from multiples of 32 on, so that an ordinary line costs little.
 fn all_ruled(line: &[u8], i: usize) -> bool
     requires { ⌜ i ≤ length (now line) ⌝ }
     ensures { λ r. ⌜ r ≡ all (matches "-*_ |:") (drop i (now (line .entry))) ⌝ }
@@ -82,6 +113,9 @@ fn all_ruled(line: &[u8], i: usize) -> bool
             return false;
         }
         j += 1;
+        if j % 32 == 0 {
+            j = ruled_blocks(line, j);
+        }
     }
     true
 }
