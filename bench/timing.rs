@@ -23,11 +23,16 @@ pub struct Effort {
     pub rounds: usize,
 }
 
+/// How often an input is read in one turn: short ones so often that the clock's own step does not count.
+fn calls(input: &[u8]) -> u32 {
+    (4_000 / input.len().max(1)).clamp(1, 200) as u32
+}
+
 /// The least time of either of two calls in nanoseconds. They take turns, so that whatever slows the machine for a while slows both.
-fn least(effort: Effort, mut first: impl FnMut(), mut second: impl FnMut()) -> (f64, f64) {
+fn least(effort: Effort, calls: u32, mut first: impl FnMut(), mut second: impl FnMut()) -> (f64, f64) {
     let time = |best: Duration, call: &mut dyn FnMut()| {
         let turn = Instant::now();
-        call();
+        (0..calls).for_each(|_| call());
         best.min(turn.elapsed())
     };
     let (start, mut best, mut rounds) = (Instant::now(), (Duration::MAX, Duration::MAX), 0);
@@ -35,7 +40,7 @@ fn least(effort: Effort, mut first: impl FnMut(), mut second: impl FnMut()) -> (
         best = (time(best.0, &mut first), time(best.1, &mut second));
         rounds += 1;
     }
-    (best.0.as_nanos() as f64, best.1.as_nanos() as f64)
+    (best.0.as_nanos() as f64 / calls as f64, best.1.as_nanos() as f64 / calls as f64)
 }
 
 /// The port's number for an input: 0 where it takes it.
@@ -62,7 +67,7 @@ pub fn measure(name: &str, kind: Kind, input: &[u8], effort: Effort, b: &mut Buf
             Kind::Markdown => drop(black_box(oracle::blocks(text))),
         }
     };
-    least(effort, port, rust)
+    least(effort, calls(input), port, rust)
 }
 
 pub fn stop(why: String) -> ! {
