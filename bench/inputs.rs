@@ -91,7 +91,7 @@ pub const SERIES: [Series; 46] = [
     markdown("rules", "---\n"),
     markdown("exclamation marks", "!"),
     markdown("comments in Markdown", "<!-- a -->b\n"),
-    Series { name: "open comment in Markdown", kind: Kind::Markdown, start: "<!--", unit: "a " },
+    Series { name: "open Markdown comment", kind: Kind::Markdown, start: "<!--", unit: "a " },
     markdown("e acute in Markdown", "é"),
     markdown("rockets in Markdown", "🚀"),
     markdown("escaped rockets", "\\🚀"),

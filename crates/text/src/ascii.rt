@@ -35,34 +35,25 @@ fn is_ascii_word(s: &[u8], i: usize) -> bool
     ascii
 }
 
-// Where the blocks of 32 ASCII bytes from i on end.
-fn ascii_blocks(s: &[u8], i: usize) -> usize
+// Where the blocks of 32 ASCII bytes from i on end, and the words of 8 behind them.
+pub(crate) fn ascii_blocks(s: &[u8], i: usize) -> usize
     requires { ⌜ i ≤ length (now s) ⌝ }
     ensures { λ r. ⌜ RunTo is-ascii (now (s .entry)) i r ⌝ }
 {
     let mut j = i;
     while 32 <= s.len() - j {
         if !is_ascii_block(s, j) {
-            return j;
+            break;
         }
         j += 32;
     }
+    while 8 <= s.len() - j {
+        if !is_ascii_word(s, j) {
+            return j;
+        }
+        j += 8;
+    }
     j
-}
-
-// An offset after i up to which all is ASCII, as the byte at i is. A word is tried only from multiples of 8 on, so that a short run costs little.
-pub(crate) fn past_ascii(s: &[u8], i: usize) -> usize
-    requires { ⌜ (i + 8 < length (now s)) × (getD (now s) i 0 < 0x80) ⌝ }
-    ensures { λ r. ⌜ RunTo is-ascii (now (s .entry)) i r × (i < r) ⌝ }
-{
-    let j = i + 1;
-    if j % 8 != 0 {
-        return j;
-    }
-    if !is_ascii_word(s, j) {
-        return j;
-    }
-    ascii_blocks(s, j + 8)
 }
 
 // How many ASCII bytes are passed over at once from i on, where one stands, and no more than `most`: a word of 8, or 1.

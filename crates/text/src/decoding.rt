@@ -6,7 +6,7 @@ ghost use lib.ListN.{length, getD, drop};
 ghost use Rattle.text.specs.Words.{if_then_else_};
 ghost use Rattle.text.specs.Utf8.{tail, starts3, starts4, join, char-of, char, size-of, char-size, char-code, FourAt, code-at, is-utf8};
 use crate::Char;
-use crate::ascii::past_ascii;
+use crate::ascii::ascii_blocks;
 use crate::beside::past_block;
 use crate::classes::within;
 
@@ -186,14 +186,22 @@ fn is_utf8_from(s: &[u8], i: usize) -> bool
     true
 }
 
-// Whether all of s is UTF-8. While more than 8 bytes are left, no character is tested for going past the end.
+// Whether all of s is UTF-8. While more than 8 bytes are left, no character is tested for going past the end. Blocks of ASCII are tried only at
+// multiples of 8, so that a short run costs little.
 pub fn is_utf8(s: &[u8]) -> bool
     ensures { λ r. ⌜ r ≡ is-utf8 (now (s .entry)) ⌝ }
 {
     let mut i = 0;
     while 8 < s.len() - i {
+        if i % 8 == 0 {
+            let e = ascii_blocks(s, i);
+            if e != i {
+                i = e;
+                continue;
+            }
+        }
         if s[i] < 0x80 {
-            i = past_ascii(s, i);
+            i += 1;
             continue;
         }
         let j = past_block(s, i);
