@@ -32,17 +32,17 @@ struct Found {
     rust: f64,
 }
 
-/// Each piece and each two pieces.
+/// Nothing, each piece and each two pieces.
 fn units(pieces: &[&str]) -> Vec<String> {
     let twos = pieces.iter().flat_map(|first| pieces.iter().map(move |second| format!("{first}{second}")));
-    pieces.iter().map(|piece| piece.to_string()).chain(twos).collect()
+    std::iter::once(String::new()).chain(pieces.iter().map(|piece| piece.to_string())).chain(twos).collect()
 }
 
 /// The times of all units that the port takes; it refuses those that open more than 64 lists.
 fn timed(kind: Kind, pieces: &[&str], size: usize, b: &mut Buffers) -> Vec<Found> {
     let mut all = Vec::new();
     for unit in units(pieces) {
-        let input = unit.repeat((size / unit.len()).max(1)).into_bytes();
+        let input = unit.repeat((size / unit.len().max(1)).max(1)).into_bytes();
         if number(kind, &input, b) != 0 {
             continue;
         }

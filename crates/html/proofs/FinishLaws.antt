@@ -109,6 +109,10 @@ module _ (page : List ℕ) (u : is-utf8 page ≡ true) where
       pub call-4 : none ≡ loop 0 (chars (take n page)) new → html-to-markdown-call page w r ≡ refused 4
       call-4 q = call-loop none q
 
+      pub call-empty : n ≡ 0 → html-to-markdown-call page w r ≡ wrote []
+      unfolding loop finish trim-end-matches drop-while
+      call-empty z = call-loop (some new) (rw (z, chars-nil))
+
       pub call-wrote : (c : Converter) (l work : List ℕ) → some (state-of c l work) ≡ loop 0 (chars (take n page)) new → c .len ≤ length work
           → html-to-markdown-call page w r ≡ wrote (encode (take 8000 (trim (chars (take (c .len) work)))))
       unfolding finish state-of out-of

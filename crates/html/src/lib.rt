@@ -124,6 +124,9 @@ pub fn html_to_markdown(page: &[u8], work: &mut [u8], result: &mut [u8]) -> Answ
     if result.len() < 4 * Converter::MAX_NOTES {
         return Answer::SmallResult;
     }
+    if n == 0 {
+        return Answer::Length(0);
+    }
     let mut lists = [0; Converter::MAX_LISTS];
     let t = convert(&mut lists, work, &page[..n]);
     if !t.ok {

@@ -157,7 +157,7 @@ pub fn code_at(s: &[u8], i: usize) -> u32
 }
 
 // How many bytes the character at i has: 1 for a byte that starts none, 0 at the end.
-pub fn size_at(s: &[u8], i: usize) -> usize
+pub(crate) fn size_at(s: &[u8], i: usize) -> usize
     ensures { λ r. ⌜ r ≡ size-of (char (drop i (now (s .entry)))) ⌝ }
 {
     if s.len() <= i {

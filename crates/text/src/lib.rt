@@ -16,7 +16,6 @@ pub use classes::within;
 pub use decoding::byte;
 pub use decoding::code_at;
 pub use decoding::is_utf8;
-pub use decoding::size_at;
 pub use encoding::put;
 pub use encoding::width;
 pub use parts::cut_len;
