@@ -45,10 +45,10 @@ fn is_fit_block(s: &[u8], i: usize) -> bool
     ensures { λ r. ⌜ (r ≡ true → AllFit (now (s .entry)) i (i + 32)) ⌝ }
 {
     let mut fit = true;
-    let mut k = i;
-    let end = i + 32;
-    while k < end {
-        fit = fit & is_fit(s[k - 3], s[k - 2], s[k - 1], s[k]);
+    let mut k = 0;
+    while k < 32 {
+        let j = i + k;
+        fit = fit & is_fit(s[j - 3], s[j - 2], s[j - 1], s[j]);
         k += 1;
     }
     fit

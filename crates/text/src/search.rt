@@ -80,10 +80,10 @@ fn is_free_block(s: &[u8], i: usize, a: u8, b: u8, c: u8) -> bool
         return false;
     }
     let mut free = true;
-    let mut k = i;
-    let end = i + 32;
-    while k < end {
-        free = free & ((s[k] != a) | (s[k + 1] != b) | (s[k + 2] != c));
+    let mut k = 0;
+    while k < 32 {
+        let j = i + k;
+        free = free & ((s[j] != a) | (s[j + 1] != b) | (s[j + 2] != c));
         k += 1;
     }
     free

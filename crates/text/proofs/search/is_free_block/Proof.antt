@@ -1,6 +1,7 @@
--- `text::is_free_block` meets its contract. The loop's invariant: where none was found, there is none from i up to k.
+-- `text::is_free_block` meets its contract. The loop's invariant: where none was found, there is none from i up to i + k.
 -- Assumes nothing.
 use Prim.Native.Nat.{_+_, _-_, _≤_}
+use native.Mathlib.Nat.{add-zero}
 use native.Mathlib.Omega.{arith}
 use mathlib.Core.Bool.{true}
 use mathlib.Core.List.{[], _∷_}
@@ -12,10 +13,10 @@ use Rattle.text.proofs.search.is_free_block.Statement.{statement}
 use Rattle.text.proofs.search.is_free_block.Tie as tie
 
 abbrev Inv-loop : tie.InvT-loop
-Inv-loop s i a b c free₀ k₀ end free k = (free ≡ true → SeekTo (a ∷ b ∷ c ∷ []) s i k) × ((i ≤ k) × (k ≤ i + 32))
+Inv-loop s i a b c free₀ k₀ free k = (free ≡ true → SeekTo (a ∷ b ∷ c ∷ []) s i (i + k)) × (k ≤ 32)
 
 abbrev μ-loop : tie.MeasureT-loop
-μ-loop s i a b c free₀ k₀ end free k = i + 32 - k
+μ-loop s i a b c free₀ k₀ free k = 32 - k
 
 returns : tie.Need-returns Inv-loop μ-loop
 returns c = λ e. false-true e
@@ -26,11 +27,11 @@ sub-if2 c = omega arith
 returns-2 : tie.Need-returns-2 Inv-loop μ-loop
 returns-2 c = λ e. false-true e
 
-add-end : tie.Need-add-end Inv-loop μ-loop
-add-end c = omega arith
-
 loop-holds : tie.Need-loop-holds Inv-loop μ-loop
-loop-holds c = (λ _. seek-start _ _ _ (omega arith), omega arith)
+loop-holds c = let i = c .before .before .args .i in (λ _. rw (add-zero i) (seek-start _ _ i (omega arith)), omega arith)
+
+add-j : tie.Need-add-j Inv-loop μ-loop
+add-j c = omega arith
 
 shared-slice-read-free : tie.Need-shared-slice-read-free Inv-loop μ-loop
 shared-slice-read-free c = omega arith
@@ -56,15 +57,16 @@ loop-less c = omega arith
 loop-again : tie.Need-loop-again Inv-loop μ-loop
 loop-again c =
     let a = c .before .before .before .before .before .before .before .args in
-    let k = c .before .before .before .before .loop .k in (
+    let l = c .before .before .before .before .loop in
+    let n : a .i + l .k + 1 ≡ a .i + (l .k + 1) = omega arith in (
       λ e.
-          let q = and-true (c .before .before .before .before .loop .free) _ e in
-          seek-next _ (a .s .now) (a .i) k (c .before .before .before .before .loop .inv .0 (q .0)) (omega arith) (three-other (a .s .now) (a .a) (a .b) (a .c) k (omega arith) (q .1)),
+          let q = and-true (l .free) _ e in
+          rw n at (seek-next _ (a .s .now) (a .i) (a .i + l .k) (l .inv .0 (q .0)) (omega arith) (three-other (a .s .now) (a .a) (a .b) (a .c) (a .i + l .k) (omega arith) (q .1))),
       omega arith,
     )
 
 returns-3 : tie.Need-returns-3 Inv-loop μ-loop
-returns-3 c = let q : c .before .loop .k ≡ c .before .before .before .before .args .i + 32 = omega arith in rw q at (c .before .loop .inv .0)
+returns-3 c = let q : c .before .loop .k ≡ 32 = omega arith in rw q at (c .before .loop .inv .0)
 
 pub is-free-block-spec : {M : Type 1} → statement M
 is-free-block-spec =
@@ -75,8 +77,8 @@ is-free-block-spec =
     returns
     sub-if2
     returns-2
-    add-end
     loop-holds
+    add-j
     shared-slice-read-free
     add-free
     shared-slice-read-free-2
