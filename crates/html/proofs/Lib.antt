@@ -6,7 +6,6 @@ pub mod NameLaws
 pub mod TextLaws
 pub mod AboveLaws
 pub mod SkipLaws
-pub mod CloseLaws
 pub mod FitLaws
 pub mod TurnLaws
 pub mod LoopLaws

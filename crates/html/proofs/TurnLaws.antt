@@ -15,7 +15,7 @@ use borrow.Author.Tests.{lt-ltb, le-ltb, ltb-true, ltb-false}
 use Rattle.text.specs.Words.{if_then_else_, _>>=_, case, starts, index, find}
 use Rattle.text.specs.Utf8.{Scalars, encode, size, chars}
 use Rattle.text.specs.Trim.{trim}
-use Rattle.text.specs.Find.{found, until, since}
+use Rattle.text.specs.Find.{found, until, since, closed, comment-end}
 use Rattle.text.specs.declared.Found.the-variants.{Nowhere}
 use Rattle.text.proofs.Tests.{on, starts-room}
 use Rattle.text.proofs.Laws.{size-chars, chars-nil, advance-end, scalars-split}
@@ -30,7 +30,7 @@ use Rattle.html.specs.declared.Converter.{Converter}
 use Rattle.html.proofs.GrowLaws.{len-of}
 use Rattle.html.proofs.StepLaws.{lists-is, like}
 use Rattle.html.proofs.FitLaws.{words-size, words-lists}
-use Rattle.html.proofs.CloseLaws.{closed, closed-chars, comment-left}
+use Rattle.text.proofs.CloseLaws.{closed-chars, comment-left, end-left}
 
 -- ---- the cases of a turn, in characters
 abbrev tag-left : List ℕ → Option State → Option (List ℕ × State)
@@ -178,10 +178,10 @@ module _ (h : List ℕ) (j : ℕ) (d : State) (t : Bool) (e : t ≡ starts "<!--
   starts-is : starts "<!--" mark ≡ t
   starts-is = starts-chars (60 ∷ 33 ∷ 45 ∷ 45 ∷ []) (drop j h) (omega arith, (omega arith, (omega arith, (omega arith, tt)))) ∙ sym e
 
-  pub bytes-comment : (r : ℕ) → t ≡ true → drop r h ≡ case (find "-->" (drop (j + 4) h)) [] (λ end. drop (end + 3) (drop (j + 4) h)) → some (chars (drop r h), d) ≡ left mark (markup 0 mark d)
+  pub bytes-comment : (r : ℕ) → t ≡ true → r ≡ comment-end h (j + 4) → some (chars (drop r h), d) ≡ left mark (markup 0 mark d)
   bytes-comment r y g =
       let p : chars (drop (j + 4) h) ≡ drop 4 mark = ap chars (sym (drop-drop 4 j h)) ∙ drop-chars (60 ∷ 33 ∷ 45 ∷ 45 ∷ []) (drop j h) (omega arith, (omega arith, (omega arith, (omega arith, tt)))) (sym e ∙ y) in
-      sym (markup-comment mark d (starts-is ∙ y) ∙ ap (λ (l : List ℕ). some (l, d)) (sym (ap chars (g ∙ comment-left (drop (j + 4) h)) ∙ closed-chars (drop (j + 4) h) ∙ ap closed p)))
+      sym (markup-comment mark d (starts-is ∙ y) ∙ ap (λ (l : List ℕ). some (l, d)) (sym (ap chars (ap (λ (k : ℕ). drop k h) g ∙ end-left h (j + 4)) ∙ closed-chars (drop (j + 4) h) ∙ ap closed p)))
 
   pub bytes-unclosed : t ≡ false → found j (index (62 ∷ []) (drop j h)) ≡ Nowhere → some (chars (drop (length h) h), d) ≡ left mark (markup 0 mark d)
   bytes-unclosed n g =

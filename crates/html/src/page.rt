@@ -9,8 +9,8 @@ use crate::names::tag_skip;
 use text::Found;
 ghost use mathlib.Core.Path.{_≡_};
 ghost use Prim.Native.Nat.{ℕ, _+_, _*_, _^_, _≤_, _<_};
-ghost use mathlib.Core.List.{List, []};
-ghost use Rattle.text.specs.Words.{case, find};
+ghost use mathlib.Core.List.{List};
+ghost use Rattle.text.specs.Words.{find};
 ghost use Rattle.text.specs.Find.{until};
 ghost use mathlib.Core.Bool.{true};
 ghost use lib.ListN.{length, getD, drop};
@@ -95,7 +95,7 @@ impl Converter {
         ensures { λ r. ⌜ (lt < r .next) × (r .next ≤ length (now (html .entry))) ⌝ }
     {
         if text::starts_with(html, lt, b"<!--") {
-            let n = comment_end(html, lt + 4);
+            let n = text::comment_end(html, lt + 4);
             return Turned {
                 ok: true,
                 next: n,
@@ -150,17 +150,6 @@ fn text_end(html: &[u8], i: usize) -> usize
         return html.len();
     };
     lt
-}
-
-// Where a comment ends: after the first `-->` from i on, or at the end of the page.
-fn comment_end(html: &[u8], i: usize) -> usize
-    requires { ⌜ i ≤ length (now html) ⌝ }
-    ensures { λ r. ⌜ (drop r (now (html .entry)) ≡ case (find "-->" (drop i (now (html .entry)))) [] (λ end. drop (end + 3) (drop i (now (html .entry))))) × ((i ≤ r) × (r ≤ length (now (html .entry)))) ⌝ }
-{
-    let Found::Here(end) = text::find3(html, i, b'-', b'-', b'>') else {
-        return html.len();
-    };
-    end + 3
 }
 
 // All turns, until the page or the room for notes is used up.

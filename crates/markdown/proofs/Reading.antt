@@ -12,38 +12,19 @@ use native.Mathlib.Nat.{add-zero}
 use native.Mathlib.Omega.{arith}
 use lib.ListN.{length, getD, take, drop, set, length-drop, length-set, drop-of-length-le}
 use lib.Seq.{sets, length-sets, drop-drop, drop-append-add, drop-set-lt, getD-drop, take-at, take-suc, take-suc-set, length-take-le}
-use Rattle.text.specs.Words.{starts, take-while, index}
+use Rattle.text.specs.Words.{starts, take-while}
 use Rattle.text.specs.Run.{RunTo}
-use Rattle.text.specs.Find.{found}
-use Rattle.text.specs.declared.Found.the-variants.{Here, Nowhere}
-use Rattle.text.proofs.FindLaws.{found-some, found-none}
 use Rattle.text.proofs.RunLaws.{run-le, run-next, run-stop}
 use Rattle.text.proofs.Lists.{drop-next}
-use Rattle.text.proofs.Tests.{starts-room, decide, and-true}
+use Rattle.text.proofs.Tests.{decide, and-true}
 use Rattle.records.proofs.Stores.{sets-front}
 use Rattle.markdown.specs.Blocks.{cleaned}
 use Rattle.text.specs.Part.{between}
-use Rattle.markdown.specs.Parts.{past, first-line, other-lines, text-of, quiet, PastIs, CommentedIs, LineIs}
+use Rattle.text.specs.Find.{closed, comment-end}
+use Rattle.text.proofs.CloseLaws.{end-left, end-bounds}
+use Rattle.markdown.specs.Parts.{first-line, other-lines, text-of, quiet, CommentedIs, LineIs}
 use Rattle.markdown.specs.declared.lines.Line.{Line}
-use Rattle.markdown.proofs.CommentLaws.{closing, from-none, from-some, comment-goes, other-stays}
-
--- ---- the end of a comment
-module _ (s : List ℕ) (i : ℕ) (l : i < length s) where
-  pub past-found : (k : ℕ) → found i (index closing (drop i s)) ≡ Here k → PastIs s i (k + 3)
-  past-found k e =
-      let (n, f, q) = found-some i (index closing (drop i s)) k e in
-      let g = from-some 45 (45 ∷ 62 ∷ []) (drop i s) n f in
-      let d : drop n (drop i s) ≡ drop k s = drop-drop n i s ∙ rw q in
-      record {
-        left = sym (drop-drop 3 k s) ∙ ap (drop 3) (sym (g .0 ∙ d));
-        low = omega arith;
-        bound = starts-room closing s k (omega arith) (rw d at (g .1));
-      }
-
-  pub past-none : found i (index closing (drop i s)) ≡ Nowhere → PastIs s i (length s)
-  past-none e =
-      let f = from-none 45 (45 ∷ 62 ∷ []) (drop i s) (found-none i (index closing (drop i s)) e) in
-      record { left = drop-of-length-le s {i = length s} (omega arith) ∙ rw f; low = l; bound = omega arith }
+use Rattle.markdown.proofs.CommentLaws.{comment-goes, other-stays}
 
 -- ---- the line so far, and what is left of it: the first line of the text without comments from j on, and the other lines
 module _ (s : List ℕ) (j : ℕ) (l : j < length s) where
@@ -55,10 +36,10 @@ module _ (s : List ℕ) (j : ℕ) (l : j < length s) where
       let d : drop j s ≡ 10 ∷ drop (j + 1) s = drop-next s j l ∙ rw e in
       ap (cleaned 0) d ∙ other-stays 10 (drop (j + 1) s) refl
 
-  pub at-comment : (r : ℕ) → starts "<!--" (drop j s) ≡ true → drop r s ≡ past (drop j s) → left j ≡ left r
+  pub at-comment : (r : ℕ) → starts "<!--" (drop j s) ≡ true → drop r s ≡ closed (drop j s) → left j ≡ left r
   at-comment r e p =
       let d = drop-next s j l in
-      ap (cleaned 0) d ∙ comment-goes (getD s j 0) (drop (j + 1) s) (rw d at e) ∙ ap (cleaned 0) (ap past (sym d) ∙ sym p)
+      ap (cleaned 0) d ∙ comment-goes (getD s j 0) (drop (j + 1) s) (rw d at e) ∙ ap (cleaned 0) (ap closed (sym d) ∙ sym p)
 
   pub at-other : starts "<!--" (drop j s) ≡ false → left j ≡ getD s j 0 ∷ left (j + 1)
   at-other e =
@@ -119,17 +100,19 @@ module _ (s : List ℕ) (start have : ℕ) (work₀ : List ℕ) where
           bound = omega arith;
         }
 
-    pub copied-comment : (r : ℕ) → j < length s → starts "<!--" (drop j s) ≡ true → PastIs s j r → Copying s start have work₀ work r k
+    pub copied-comment : (r : ℕ) → j < length s → starts "<!--" (drop j s) ≡ true → r ≡ comment-end s j → Copying s start have work₀ work r k
     copied-comment r l e p =
-        let a = at-comment s j l r e (p .left) in
+        let a = at-comment s j l r e (ap (λ (k : ℕ). drop k s) p ∙ end-left s j) in
         let b = v .short in
-        let c = p .low in
+        let h = end-bounds s j (omega arith) .1 in
+        let d = h .0 in
+        let c = h .1 l in
         record {
           bytes = rw a at (v .bytes);
           left = rw a at (v .left);
           kept = v .kept;
           size = v .size;
-          bound = p .bound;
+          bound = omega arith;
           low = omega (arith, v .low);
           short = omega arith;
         }

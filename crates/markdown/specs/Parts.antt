@@ -1,12 +1,11 @@
 -- What the block reader's offsets mean: parts of the Markdown and of the work buffer, and the lines of a text without comments.
 -- Assumes nothing.
 use Prim.Native.Nat.{ℕ, _+_, _-_, _≤_, _<_}
-use mathlib.Core.Bool.{Bool, true, false, not, _&&_, cond}
-use mathlib.Core.List.{List, [], _∷_, _++_}
+use mathlib.Core.Bool.{Bool, true, false, not, _&&_}
+use mathlib.Core.List.{List, _++_}
 use mathlib.Core.Path.{_≡_}
 use lib.ListN.{length, take, drop}
 use lib.Dec.{eqb}
-use Rattle.text.specs.Words.{str, starts-with}
 use Rattle.text.specs.Find.{until, since}
 use Rattle.text.specs.Part.{between}
 use Rattle.markdown.specs.Blocks.{cleaned}
@@ -44,20 +43,6 @@ pub record LineIs (markdown : List ℕ) (i : ℕ) (work₀ work : List ℕ) (l :
   pub low : l .to ≤ length markdown
   pub short : l .to + i < l .next + l .from
   pub bound : l .next ≤ length markdown + 1
-
--- what stands from the first place of p on, and what stands after the comment that a text starts with
-abbrev pub from : List ℕ → List ℕ → List ℕ
-from p [] = []
-from p (c ∷ s) = cond (starts-with p (c ∷ s)) (c ∷ s) (from p s)
-
-abbrev pub past : List ℕ → List ℕ
-past s = drop 3 (from (str "-->") s)
-
--- where a comment ends that starts at offset i
-pub record PastIs (markdown : List ℕ) (i r : ℕ) : Type 0 where
-  pub left : drop r markdown ≡ past (drop i markdown)
-  pub low : i < r
-  pub bound : r ≤ length markdown
 
 -- the rest of a line from an offset on, stored after what the buffer has of it
 pub record CommentedIs (markdown : List ℕ) (start have : ℕ) (work₀ work : List ℕ) (l : Line) : Type 0 where

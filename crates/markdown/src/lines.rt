@@ -6,7 +6,7 @@ ghost use lib.ListN.{length, take, drop};
 ghost use Rattle.text.specs.Words.{all, starts-with};
 ghost use Rattle.text.specs.Run.{RunTo};
 ghost use Rattle.text.specs.Part.{between};
-ghost use Rattle.markdown.specs.Parts.{source, text-of, quiet, Inside, PastIs, CommentedIs, LineIs};
+ghost use Rattle.markdown.specs.Parts.{source, text-of, quiet, Inside, CommentedIs, LineIs};
 use text::Found;
 
 // A line: a part of the Markdown, or, where a comment was removed from it, of the work buffer; and where the next line starts.
@@ -48,17 +48,6 @@ pub(crate) fn stands_at(s: &[u8], j: usize, mark: &[u8]) -> bool
     text::starts_with(s, j, mark)
 }
 
-// Where the comment ends that starts at i, or the end of the Markdown where it is not closed.
-fn past_comment(markdown: &[u8], i: usize) -> usize
-    requires { ⌜ i < length (now markdown) ⌝ }
-    ensures { λ r. ⌜ PastIs (now (markdown .entry)) i r ⌝ }
-{
-    let Found::Here(at) = text::find3(markdown, i, b'-', b'-', b'>') else {
-        return markdown.len();
-    };
-    at + 3
-}
-
 // The rest of a line from `start` on, after the `have` bytes of it that are in the work buffer: a comment stands in the line.
 fn commented(markdown: &[u8], start: usize, have: usize, work: &mut [u8]) -> Line
     requires { ⌜ (start ≤ length (now markdown)) × ((have ≤ start) × (length (now markdown) ≤ length (now work))) ⌝ }
@@ -77,7 +66,7 @@ fn commented(markdown: &[u8], start: usize, have: usize, work: &mut [u8]) -> Lin
             };
         }
         if stands_at(markdown, j, b"<!--") {
-            j = past_comment(markdown, j);
+            j = text::comment_end(markdown, j);
             continue;
         }
         work[k] = b;

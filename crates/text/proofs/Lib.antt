@@ -10,6 +10,7 @@ pub mod WideLaws
 pub mod FindLaws
 pub mod PutLaws
 pub mod AsciiLaws
+pub mod CloseLaws
 pub mod SeekLaws
 pub mod CutLaws
 pub mod DecimalLaws

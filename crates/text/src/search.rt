@@ -6,7 +6,7 @@ ghost use mathlib.Core.List.{[], _∷_};
 ghost use lib.ListN.{length, take, drop};
 ghost use Rattle.text.specs.Words.{all, starts-with, index};
 ghost use Rattle.text.specs.Run.{RunTo, SeekTo, other};
-ghost use Rattle.text.specs.Find.{found};
+ghost use Rattle.text.specs.Find.{found, comment-end};
 use crate::Found;
 
 // Whether the 32 bytes from i on are other bytes than b, tested as in `is_ascii_block`.
@@ -90,7 +90,7 @@ fn is_free_block(s: &[u8], i: usize, a: u8, b: u8, c: u8) -> bool
 }
 
 // The first place of s at or after i where a b c stand.
-pub fn find3(s: &[u8], i: usize, a: u8, b: u8, c: u8) -> Found
+fn find3(s: &[u8], i: usize, a: u8, b: u8, c: u8) -> Found
     ensures { λ r. ⌜ r ≡ found i (index (a ∷ b ∷ c ∷ []) (drop i (now (s .entry)))) ⌝ }
 {
     if s.len() < i {
@@ -108,6 +108,16 @@ pub fn find3(s: &[u8], i: usize, a: u8, b: u8, c: u8) -> Found
         j += 1;
     }
     Found::Nowhere
+}
+
+// Where a comment ends: after the first `-->` of s at or after i, or at the end of s.
+pub fn comment_end(s: &[u8], i: usize) -> usize
+    ensures { λ r. ⌜ r ≡ comment-end (now (s .entry)) i ⌝ }
+{
+    let Found::Here(at) = find3(s, i, b'-', b'-', b'>') else {
+        return s.len();
+    };
+    at + 3
 }
 
 // Whether p stands at i.

@@ -7,6 +7,7 @@ use Prim.Native.Nat.{_+_, _≤_}
 use Rattle.html.specs.State.{new}
 use Rattle.html.specs.Struct.{state-of, turned}
 use Rattle.text.proofs.FindLaws.{IsHere, found-here}
+use Rattle.text.proofs.CloseLaws.{end-bounds}
 use Rattle.html.proofs.TurnLaws.{bytes-comment, bytes-unclosed, bytes-tag, end-after, turned-tag, mark-room}
 use borrow.Author.Needs.{needs}
 use Rattle.html.proofs.Converter.markup.Statement.{statement}
@@ -33,14 +34,15 @@ add-comment-end : tie.Need-add-comment-end
 add-comment-end c = omega (arith, mark-room (now (c .before .before .before .before .before .before .args .html)) (c .before .before .before .before .before .before .args .lt) (c .before .starts-with .result) (c .before .starts-with .ensures) (c .if1 .taken))
 
 comment-end-requires : tie.Need-comment-end-requires
-comment-end-requires c κs = mark-room (now (c .before .before .before .before .before .before .args .html)) (c .before .before .before .before .before .before .args .lt) (c .before .starts-with .result) (c .before .starts-with .ensures) (c .if1 .taken)
+comment-end-requires c κs = search needs
 
 returns : tie.Need-returns
 unfolding turned
 returns c =
     let a = c .before .before .before .before .before .before .before .args in
     let h = now (a .html) in
-    (bytes-comment h (a .lt) (state-of (a .self) (now (a .lists)) (now (a .out))) (c .before .before .starts-with .result) (c .before .before .starts-with .ensures) (c .comment-end .result) (c .before .if1 .taken) (c .comment-end .ensures .0), (omega (arith, c .comment-end .ensures .1 .0), c .comment-end .ensures .1 .1))
+    let b = end-bounds h (a .lt + 4) (mark-room h (a .lt) (c .before .before .starts-with .result) (c .before .before .starts-with .ensures) (c .before .if1 .taken)) in
+    (bytes-comment h (a .lt) (state-of (a .self) (now (a .lists)) (now (a .out))) (c .before .before .starts-with .result) (c .before .before .starts-with .ensures) (c .comment-end .result) (c .before .if1 .taken) (c .comment-end .ensures), (omega (arith, c .comment-end .ensures, b .0), omega (arith, c .comment-end .ensures, b .1 .0)))
 
 find-requires : tie.Need-find-requires
 find-requires c κs = search needs

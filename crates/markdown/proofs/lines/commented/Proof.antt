@@ -1,5 +1,6 @@
 -- `markdown::lines::commented` meets its contract. The loop's invariant: what is stored and what is left make up the line.
 -- Assumes nothing.
+use Rattle.text.proofs.CloseLaws.{end-bounds}
 use Rattle.markdown.proofs.Reading.{Copying, copying-none, copied-break, copied-end, copied-comment, copied-other}
 use lib.ListN.{length}
 use borrow.Author.Needs.{needs}
@@ -36,14 +37,17 @@ slice-aggregate-stands-at c = search needs
 stands-at-requires : tie.Need-stands-at-requires Inv-loop μ-loop
 stands-at-requires c κs = search needs
 
-past-comment-requires : tie.Need-past-comment-requires Inv-loop μ-loop
-past-comment-requires c κs = c .before .before .before .before .before .loop-test .taken
+comment-end-requires : tie.Need-comment-end-requires Inv-loop μ-loop
+comment-end-requires c κs = search needs
 
 loop-less : tie.Need-loop-less Inv-loop μ-loop
-loop-less c = let p = c .past-comment .ensures in omega (arith, p .low, p .bound)
+loop-less c =
+    let h = end-bounds (c .before .before .before .before .before .before .before .before .before .before .args .markdown .now) (c .before .before .before .before .before .before .before .loop .j) (omega arith) .1 in
+    let d = h .0 in
+    omega (arith, c .comment-end .ensures, h .1 (c .before .before .before .before .before .before .loop-test .taken))
 
 loop-again : tie.Need-loop-again Inv-loop μ-loop
-loop-again c = copied-comment _ _ _ _ _ _ _ (c .before .before .before .before .before .before .before .loop .inv) _ (c .before .before .before .before .before .before .loop-test .taken) (sym (c .before .before .stands-at .ensures) ∙ c .before .if2 .taken) (c .past-comment .ensures)
+loop-again c = copied-comment _ _ _ _ _ _ _ (c .before .before .before .before .before .before .before .loop .inv) _ (c .before .before .before .before .before .before .loop-test .taken) (sym (c .before .before .stands-at .ensures) ∙ c .before .if2 .taken) (c .comment-end .ensures)
 
 slice-write-work : tie.Need-slice-write-work Inv-loop μ-loop
 slice-write-work c = let v = c .before .before .before .before .before .before .loop .inv in omega (arith, v .short, v .size, c .before .before .before .before .before .before .before .before .before .pre .1 .0, c .before .before .before .before .before .before .before .before .before .pre .1 .1)
@@ -72,4 +76,4 @@ returns-2 : tie.Need-returns-2 Inv-loop μ-loop
 returns-2 c = copied-end _ _ _ _ _ _ _ (c .before .loop .inv) (c .loop-test .left)
 
 pub commented-spec : {M : Type 1} → statement M
-commented-spec = tie.close (tie.spec Inv-loop μ-loop loop-holds shared-slice-read-b add-t13 same-length returns slice-aggregate-stands-at stands-at-requires past-comment-requires loop-less loop-again slice-write-work add-k add-j loop-less-2 loop-again-2 add-t18 same-length-2 returns-2)
+commented-spec = tie.close (tie.spec Inv-loop μ-loop loop-holds shared-slice-read-b add-t13 same-length returns slice-aggregate-stands-at stands-at-requires comment-end-requires loop-less loop-again slice-write-work add-k add-j loop-less-2 loop-again-2 add-t18 same-length-2 returns-2)

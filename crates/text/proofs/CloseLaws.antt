@@ -11,23 +11,18 @@ use lib.Dec.{ltb}
 use lib.ListN.{length, drop, length-drop}
 use lib.Seq.{drop-drop, drop-length}
 use borrow.Author.Tests.{ne-eqb, ltb-true, ltb-false}
 use Rattle.text.specs.Words.{if_then_else_, _>>=_, case, starts, index, find}
 use Rattle.text.specs.Utf8.{utf8, chars, stray}
 use Rattle.text.proofs.Tests.{decide, starts-room}
 use Rattle.text.proofs.Utf8.{utf8-1}
 use Rattle.text.proofs.Laws.{by-chars, chars-nil, chars-utf8, chars-bad, Tails, Long, utf8-long, lost-high}
 use Rattle.text.proofs.AsciiLaws.{chars-ascii, starts-chars, drop-chars}
-use Rattle.text.specs.Find.{found}
+use Rattle.text.specs.Find.{found, closed, comment-end}
 use Rattle.text.specs.declared.Found.the-variants.{Here, Nowhere}
 
 -- ---- an ASCII text that stands at the start is as long in bytes as in characters
 abbrev arrow : List ℕ
 arrow = 45 ∷ 45 ∷ 62 ∷ []
-
--- what is left after the first `-->`
-pub closed : List ℕ → List ℕ
-closed [] = []
-closed (x ∷ s) = let later = closed s in if starts "-->" (x ∷ s) then drop 3 (x ∷ s) else later
 
 -- ---- `closed`, step by step
 closed-cons : (x : ℕ) (s : List ℕ) → closed (x ∷ s) ≡ cond (starts "-->" (x ∷ s)) (drop 3 (x ∷ s)) (closed s)
@@ -117,24 +112,59 @@ arrow-room (x ∷ s) n e = go (starts "-->" (x ∷ s)) refl (find "-->" s) (arro
     go false h none f e = let y : _≡_ {A = ℕ} 0 1 = cc in absurd (omega arith)
     go false h (some m) f e = let q : suc m ≡ n = cc in omega (arith, f m refl)
 
--- what `comment_end` promises
-abbrev pub Ended : List ℕ → ℕ → Option ℕ → ℕ → Type 0
-Ended s i o r = (drop r s ≡ case o [] (λ end. drop (end + 3) (drop i s))) × ((i ≤ r) × (r ≤ length s))
-
-module _ (s : List ℕ) (i : ℕ) (l : i ≤ length s) where
-  pub ended-nowhere : found i (find "-->" (drop i s)) ≡ Nowhere → Ended s i (find "-->" (drop i s)) (length s)
-  ended-nowhere = go (find "-->" (drop i s))
+module _ (s : List ℕ) (i : ℕ) where
+  -- the answer of the code's search for it
+  pub end-nowhere : found i (find "-->" (drop i s)) ≡ Nowhere → length s ≡ comment-end s i
+  unfolding comment-end
+  end-nowhere = go (find "-->" (drop i s))
     where
-      go : (o : Option ℕ) → found i o ≡ Nowhere → Ended s i o (length s)
-      go none e = (drop-length s, (l, omega arith))
+      go : (o : Option ℕ) → found i o ≡ Nowhere → length s ≡ case o (length s) (λ end. i + end + 3)
+      go none e = refl
       go (some n) e = let y : _≡_ {A = ℕ} 0 1 = cc in absurd (omega arith)
 
-  pub ended-here : (j : ℕ) → found i (find "-->" (drop i s)) ≡ Here j → Ended s i (find "-->" (drop i s)) (j + 3)
-  ended-here j = go (find "-->" (drop i s)) (arrow-room (drop i s))
+  pub end-here : (j : ℕ) → found i (find "-->" (drop i s)) ≡ Here j → (j + 3 ≡ comment-end s i) × (j + 3 ≤ length s)
+  unfolding comment-end
+  end-here j = go (find "-->" (drop i s)) (arrow-room (drop i s))
     where
-      go : (o : Option ℕ) → ((n : ℕ) → o ≡ some n → n + 3 ≤ length (drop i s)) → found i o ≡ Here j → Ended s i o (j + 3)
+      go : (o : Option ℕ) → ((n : ℕ) → o ≡ some n → n + 3 ≤ length (drop i s)) → found i o ≡ Here j
+          → (j + 3 ≡ case o (length s) (λ end. i + end + 3)) × (j + 3 ≤ length s)
       go none f e = let y : _≡_ {A = ℕ} 0 1 = cc in absurd (omega arith)
-      go (some n) f e =
-          let q : i + n ≡ j = cc in
-          let k : i + (n + 3) ≡ j + 3 = omega arith in
-          (sym (drop-drop (n + 3) i s ∙ ap (λ (m : ℕ). drop m s) k), (omega arith, omega (arith, f n refl, length-drop i s)))
+      go (some n) f e = let q : i + n ≡ j = cc in (omega arith, omega (arith, f n refl, length-drop i s))
+
+  -- what stands from there on
+  pub end-left : drop (comment-end s i) s ≡ closed (drop i s)
+  unfolding comment-end
+  end-left = go (find "-->" (drop i s)) (comment-left (drop i s))
+    where
+      go : (o : Option ℕ) → case o [] (λ end. drop (end + 3) (drop i s)) ≡ closed (drop i s) → drop (case o (length s) (λ end. i + end + 3)) s ≡ closed (drop i s)
+      go none e = drop-length s ∙ e
+      go (some n) e =
+          let q : i + n + 3 ≡ i + (n + 3) = omega arith in
+          ap (λ (k : ℕ). drop k s) q ∙ sym (drop-drop (n + 3) i s) ∙ e
+
+  pub end-bounds : i ≤ length s → (i ≤ comment-end s i) × ((comment-end s i ≤ length s) × (i < length s → i < comment-end s i))
+  unfolding comment-end
+  end-bounds l = go (find "-->" (drop i s)) (arrow-room (drop i s))
+    where
+      go : (o : Option ℕ) → ((n : ℕ) → o ≡ some n → n + 3 ≤ length (drop i s))
+          → (i ≤ case o (length s) (λ end. i + end + 3)) × ((case o (length s) (λ end. i + end + 3) ≤ length s) × (i < length s → i < case o (length s) (λ end. i + end + 3)))
+      go none f = (l, (omega arith, λ h. h))
+      go (some n) f = (omega arith, (omega (arith, f n refl, length-drop i s), λ _. omega arith))
+
+-- ---- what is left is a part of the text
+pub closed-part : (s : List ℕ) → (n : ℕ) × (closed s ≡ drop n s)
+closed-part s = go (find "-->" s) (comment-left s)
+  where
+    go : (o : Option ℕ) → case o [] (λ end. drop (end + 3) s) ≡ closed s → (n : ℕ) × (closed s ≡ drop n s)
+    go none e = (length s, sym e ∙ sym (drop-length s))
+    go (some n) e = (n + 3, sym e)
+
+pub closed-less : (x : ℕ) (s : List ℕ) → length (closed (x ∷ s)) ≤ length s
+closed-less x s =
+    ⊎-elim
+    (λ t. let q = ap length (closed-yes x s t) in omega (arith, length-drop 3 (x ∷ s)))
+    (λ t.
+    let p = closed-part s in
+    let q = ap length (closed-no x s t ∙ p .1) in
+    omega (arith, length-drop (p .0) s))
+    (decide (starts "-->" (x ∷ s)))
