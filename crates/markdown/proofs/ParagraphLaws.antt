@@ -15,8 +15,8 @@ use Rattle.text.proofs.AsciiLaws.{chars-ascii}
 use Rattle.records.specs.Blocks.{Block}
 use Rattle.records.proofs.Stores.{sets-next}
 use Rattle.markdown.specs.Blocks.{Reader, joined, paragraph}
-use Rattle.text.specs.Part.{between}
-use Rattle.markdown.specs.Parts.{text-of, Inside}
+use Rattle.text.specs.Part.{between, Inside}
+use Rattle.markdown.specs.Parts.{text-of}
 use Rattle.markdown.specs.State.{LastIs, Owned, Placed, Safe, grown, Given, Steps, starts-with-text}
 use Rattle.markdown.specs.declared.writer.State.{State}
 use Rattle.markdown.proofs.PartLaws.{part-none, part-length}

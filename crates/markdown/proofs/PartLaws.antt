@@ -10,8 +10,7 @@ use lib.Seq.{take-take, drop-drop, take-nil, length-take-le, take-length, take-a
 use Rattle.text.specs.Utf8.{encode, chars}
 use Rattle.text.specs.Trim.{trim-start, trim-end, start-of, end-of}
 use Rattle.text.proofs.TrimLaws.{drop-start, chars-start, start-le, end-le, take-end, chars-end}
-use Rattle.text.specs.Part.{between}
-use Rattle.markdown.specs.Parts.{Inside}
+use Rattle.text.specs.Part.{between, Inside}
 use Rattle.markdown.specs.Shape.{Trimmed}
 
 pub drop-take : (k n : ℕ) (l : List ℕ) → drop k (take n l) ≡ take (n - k) (drop k l)

@@ -13,8 +13,8 @@ use Rattle.text.specs.Trim.{trim, start-of}
 use Rattle.records.specs.Blocks.{Item}
 use Rattle.spans.specs.Spans.{spans}
 use Rattle.markdown.specs.Blocks.{Reader, list-marker, heading, added, read-text, read-line}
-use Rattle.text.specs.Part.{between}
-use Rattle.markdown.specs.Parts.{source, text-of, Inside}
+use Rattle.text.specs.Part.{between, Inside}
+use Rattle.markdown.specs.Parts.{source, text-of}
 use Rattle.markdown.specs.Shape.{Trimmed, mark, MarkerAt}
 use Rattle.markdown.specs.State.{grown, Given, LineGiven, Steps, ends}
 use Rattle.markdown.specs.declared.shape.Range.{Range}

@@ -24,8 +24,7 @@ use Rattle.records.specs.Blocks.{Heading, Paragraph, Item}
 use Rattle.spans.specs.Spans.{spans}
 use Rattle.spans.proofs.Marks.{starts-byte}
 use Rattle.markdown.specs.Blocks.{is-rule, marked, marker-at, list-marker, row, Reader, reader, flush, added, heading, paragraph, continuation, read-text, read-line}
-use Rattle.text.specs.Part.{between}
-use Rattle.markdown.specs.Parts.{Inside}
+use Rattle.text.specs.Part.{between, Inside}
 use Rattle.markdown.specs.Shape.{Trimmed, Titled, mark, MarkerAt}
 use Rattle.markdown.specs.declared.shape.Range.{Range}
 use Rattle.markdown.proofs.PartLaws.{part-from, part-none}

@@ -9,6 +9,7 @@ use native.Mathlib.Nat.{zero-add}
 use native.Mathlib.Omega.{arith}
 use lib.ListN.{length, length-append}
 use lib.Seq.{sets}
+use Rattle.text.specs.Part.{Inside}
 use Rattle.text.specs.Words.{is-empty}
 use Rattle.text.specs.Utf8.{chars}
 use Rattle.text.proofs.Laws.{chars-nil, size-chars}
@@ -18,7 +19,7 @@ use Rattle.records.proofs.Stores.{sets-append}
 use Rattle.spans.specs.Spans.{spans}
 use Rattle.spans.proofs.Bounds.{spans-small}
 use Rattle.markdown.specs.Blocks.{Reader, reader, flush, added, continued, plain-space}
-use Rattle.markdown.specs.Parts.{source, text-of, Inside}
+use Rattle.markdown.specs.Parts.{source, text-of}
 use Rattle.markdown.specs.State.{counted, plain-after, item-after, continued-after, continued-out, ItemAt, LastIs, Holds, Placed, Safe, Given, Steps, ends}
 use Rattle.markdown.specs.declared.writer.State.{State}
 use Rattle.markdown.proofs.PartLaws.{part-none, part-length}

@@ -19,10 +19,6 @@ source false markdown work = markdown
 unfoldable pub text-of : List ℕ → List ℕ → Bool → ℕ → ℕ → List ℕ
 text-of markdown work copied from to = between (source copied markdown work) from to
 
-pub record Inside (s : List ℕ) (from to : ℕ) : Type 0 where
-  pub order : from ≤ to
-  pub bound : to ≤ length s
-
 -- the first line of a text, and what stands after it
 abbrev pub first-line : List ℕ → List ℕ
 first-line s = until 10 s

@@ -12,8 +12,7 @@ use Rattle.text.specs.Trim.{trim, start-of}
 use Rattle.records.specs.Blocks.{Heading}
 use Rattle.spans.specs.Spans.{spans}
 use Rattle.markdown.specs.Blocks.{Marked, list-marker, Reader, reader, flush, added, heading}
-use Rattle.text.specs.Part.{between}
-use Rattle.markdown.specs.Parts.{Inside}
+use Rattle.text.specs.Part.{between, Inside}
 use Rattle.markdown.specs.declared.shape.Range.{Range}
 use Rattle.markdown.specs.declared.shape.Title.{Title}
 use Rattle.markdown.specs.declared.shape.Title.the-variants.{Named, Plain}

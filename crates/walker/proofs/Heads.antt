@@ -13,8 +13,8 @@ use Rattle.text.specs.Utf8.{size, chars}
 use Rattle.text.proofs.Lists.{drop-next}
 use Rattle.records.specs.Format.{is-marker}
 use Rattle.records.specs.Decode.{Parse, u16, u32, level-at, marker-at, item-at, kind-at, count-at, head-at, failed, parsed}
-use Rattle.text.specs.Part.{between}
-use Rattle.walker.specs.Readers.{NumberIs, Within, KindIs, kind-of, kind-ended, kind-parse, kind-read-placed, kind-placed}
+use Rattle.text.specs.Part.{between, Inside}
+use Rattle.walker.specs.Readers.{NumberIs, KindIs, kind-of, kind-ended, kind-parse, kind-read-placed, kind-placed}
 use Rattle.walker.specs.declared.fields.Number.{Number}
 use Rattle.walker.specs.declared.fields.Number.the-variants.{Value, Bad}
 use Rattle.walker.specs.declared.reader.Kind as K
@@ -126,7 +126,7 @@ module _ (s : List ℕ) (at b : ℕ) (h : at < length s) {next : ℕ} (l : next 
   kind-stands KV.Paragraph p e = tt
   kind-stands (KV.Item d start end) p e =
       let (o, f) = e in
-      let w : Within s start end = (o, rw f l) in
+      let w : Inside s start end = record { order = o; bound = rw f l } in
       let n : size (chars (between s start end)) ≡ end - start = between-size s start end w in
       let a = after-length (kind-ends 0 b (drop (at + 1) s) p .after) in
       (w, omega (arith, length-drop (at + 1) s, length-drop next s))

@@ -14,8 +14,7 @@ use Rattle.records.specs.Format.{encode-span, encode-spans, bit}
 use Rattle.records.specs.Decode.{Parse, failed, parsed, span-at, spans-at, kind-at, count-at, head-at, block-at}
 use Rattle.walker.specs.Answers.{Answer, at-end, refused, gives, map, Emphasis, placed, found-at, marker-of, text-or-none, marker-answer, emphasis-of, nth, nth-of, span-in, text-answer}
 use Rattle.walker.specs.Places.{nowhere, range-or-none, marker-from, marker-range, marker-place, span-from, text-range, nth-range, text-place, here-answer}
-use Rattle.text.specs.Part.{between}
-use Rattle.walker.specs.Readers.{Within}
+use Rattle.text.specs.Part.{between, Inside}
 use Rattle.walker.specs.declared.Range.{Range}
 use Rattle.records.proofs.Decoded.{not-failed, only-inv, then-inv}
 use Rattle.walker.proofs.Placed.{After, Ends, after-length, then-after, then-ends, kind-bytes, kind-ends, count-after, span-ends}
@@ -24,18 +23,18 @@ use Rattle.walker.proofs.WalkerLaws.{nothing-there, split, nth-over}
 
 -- a place inside the records, with the bytes of a text
 pub record Holds (s : List ℕ) (r : Range) (cs : List ℕ) : Type 0 where
-  pub within : Within s (r .start) (r .end)
+  pub within : Inside s (r .start) (r .end)
   pub bytes : between s (r .start) (r .end) ≡ encode cs
 
 holds-none : (s : List ℕ) → Holds s nowhere []
-holds-none s = record { within = (zero-le, zero-le); bytes = refl }
+holds-none s = record { within = record { order = zero-le; bound = zero-le }; bytes = refl }
 
 holds-ends : {k : ℕ} {s cs r : List ℕ} (start end : ℕ) → end ≡ k → start + size cs ≡ k → Ends k s cs r → Holds s (record { start = start; end = end }) cs
 holds-ends {k} {s} {cs} start end e f z =
     let l : k ≤ length s = z .after .fits in
     let a : end - start ≡ size cs = omega arith in
     let b : start ≡ k - size cs = omega arith in
-    record { within = (omega arith, omega arith); bytes = rw (a, b) (z .text) }
+    record { within = record { order = omega arith; bound = omega arith }; bytes = rw (a, b) (z .text) }
 
 -- a text with j bytes behind it up to the offset next
 holds-text : {k j : ℕ} {s cs r q : List ℕ} (next : ℕ) → next ≡ length s - length q → Ends k s cs r → After j r q → Holds s (text-range (next - j) cs) cs

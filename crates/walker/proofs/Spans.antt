@@ -15,8 +15,8 @@ use Rattle.text.proofs.Laws.{chars-nil, size-chars}
 use Rattle.text.proofs.Lists.{drop-next}
 use Rattle.records.specs.Blocks.{Span}
 use Rattle.records.specs.Decode.{Parse, _▹_, u32, part, text-at, span-at, spans-at, failed, parsed}
-use Rattle.text.specs.Part.{between}
-use Rattle.walker.specs.Readers.{NumberIs, number-parse, number-next, Within, PartIs, part-placed, SpanIs, span-with, span-parse, span-placed, rest}
+use Rattle.text.specs.Part.{between, Inside}
+use Rattle.walker.specs.Readers.{NumberIs, number-parse, number-next, PartIs, part-placed, SpanIs, span-with, span-parse, span-placed, rest}
 use Rattle.walker.specs.declared.fields.Number.{Number}
 use Rattle.walker.specs.declared.fields.Number.the-variants.{Value, Bad}
 use Rattle.walker.specs.declared.reader.Part.{Part}
@@ -46,9 +46,10 @@ module _ (s : List ℕ) (at n : ℕ) where
   unfolding part
   part-is h = rw (length-drop at s, le-leb _ _ h, drop-drop n at s, add-sub-cancel-left at n)
 
-pub between-size : (s : List ℕ) (start end : ℕ) → Within s start end → size (chars (between s start end)) ≡ end - start
+pub between-size : (s : List ℕ) (start end : ℕ) → Inside s start end → size (chars (between s start end)) ≡ end - start
 between-size s start end w =
-    let (l, m) = w in
+    let l = w .order in
+    let m = w .bound in
     let n : end - start ≤ length (drop start s) = rw length-drop (omega arith) in
     size-chars (between s start end) ∙ length-take-le (end - start) (drop start s) n
 
@@ -74,7 +75,7 @@ module _ (s : List ℕ) (at : ℕ) {r : Number} (w : NumberIs (u32 (drop at s)) 
 
         pub text-is : t ≡ true → PartIs (text-at (drop at s)) s (P.At next (next + n))
         unfolding text-at
-        text-is f = record { read = rw (number-read w e, le-leb 1 n h, part-is s next n l, ← u, f); placed = (omega arith, omega (arith, number-within w e)) }
+        text-is f = record { read = rw (number-read w e, le-leb 1 n h, part-is s next n l, ← u, f); placed = record { order = omega arith; bound = omega (arith, number-within w e) } }
 
 pub span-end : (s : List ℕ) (at : ℕ) → length s ≤ at → SpanIs (span-at (drop at s)) s S.Bad
 unfolding span-at
@@ -93,7 +94,7 @@ module _ (s : List ℕ) (at : ℕ) (h : at < length s) where
     module _ (hi : getD s at 0 < 16) where
       pub span-bare : getD s at 0 < 8 → {x : SpanRead} → x ≡ span-with (getD s at 0) (at + 1) (at + 1) → SpanIs (span-at (drop at s)) s x
       unfolding span-at
-      span-bare l f = rw f (record { read = rw (drop-next s at h, le-leb 4 (getD s at 0) lo, lt-ltb (getD s at 0) 16 hi, lt-ltb (getD s at 0) 8 l, sub-self (at + 1), chars-nil); placed = (omega arith, omega arith) })
+      span-bare l f = rw f (record { read = rw (drop-next s at h, le-leb 4 (getD s at 0) lo, lt-ltb (getD s at 0) 16 hi, lt-ltb (getD s at 0) 8 l, sub-self (at + 1), chars-nil); placed = record { order = omega arith; bound = omega arith } })
 
       module _ (l : 8 ≤ getD s at 0) {r : Part} (w : PartIs (text-at (drop (at + 1) s)) s r) where
         pub span-none : r ≡ P.Bad → SpanIs (span-at (drop at s)) s S.Bad
@@ -123,7 +124,7 @@ module _ (s : List ℕ) (at : ℕ) {r : SpanRead} (w : SpanIs (span-at (drop at 
   spans-next zero h e = absurd (omega arith)
   spans-next (suc n) {end = end} h e = rw (sub-one (suc n)) (sym (rest-next (drop at s) n (w .read ∙ ap (span-parse s) e)))
 
-pub span-within : {p : Parse Span} {s : List ℕ} {r : SpanRead} → SpanIs p s r → {b i c : Bool} {start end : ℕ} → r ≡ S.At b i c start end → (start ≤ end) × (end ≤ length s)
+pub span-within : {p : Parse Span} {s : List ℕ} {r : SpanRead} → SpanIs p s r → {b i c : Bool} {start end : ℕ} → r ≡ S.At b i c start end → Inside s start end
 span-within {s = s} w e = subst (span-placed s) e (w .placed)
 
 pub spans-none : (n : ℕ) (t : List ℕ) → n ≤ 0 → rest (spans-at n t) ≡ parsed tt t

@@ -18,8 +18,8 @@ use Rattle.records.specs.Format.{encode-span, encode-spans}
 use Rattle.records.specs.Decode.{failed, parsed, span-at, spans-at, head-at, block-at}
 use Rattle.walker.specs.Answers.{Answer, at-end, refused, gives, map, level-of, depth-of, emphasis-of, found-at, block-answer, nth, span-in, span-answer}
 use Rattle.walker.specs.Places.{nowhere, range-or-none, marker-from, marker-range, marker-place, span-from, text-range, text-place, first-answer, here-answer}
-use Rattle.text.specs.Part.{between}
-use Rattle.walker.specs.Readers.{Within, SpanIs, span-parse, span-placed, rest, EndIs, end-parse, kind-of, kind-placed, Found, NthIs, nth-asked, nth-at}
+use Rattle.text.specs.Part.{between, Inside}
+use Rattle.walker.specs.Readers.{SpanIs, span-parse, span-placed, rest, EndIs, end-parse, kind-of, kind-placed, Found, NthIs, nth-asked, nth-at}
 use Rattle.walker.specs.declared.reader.Kind as K
 use Rattle.walker.specs.declared.reader.Kind.the-variants as KV
 use Rattle.walker.specs.declared.reader.SpansEnd.{SpansEnd}
@@ -43,11 +43,11 @@ nothing-there = refl
 two-ends : {a b c d : ℕ} → a ≡ b → c ≡ d → _≡_ {A = Range} (record { start = a; end = c }) (record { start = b; end = d })
 two-ends p q = rw (p, q)
 
-text-range-is : (s : List ℕ) {start end e : ℕ} → Within s start end → e ≡ end
+text-range-is : (s : List ℕ) {start end e : ℕ} → Inside s start end → e ≡ end
     → text-range e (chars (between s start end)) ≡ record { start = start; end = end }
 text-range-is s {start} {end} {e} w q =
     let n : size (chars (between s start end)) ≡ end - start = between-size s start end w in
-    let l : start ≤ end = w .0 in
+    let l : start ≤ end = w .order in
     two-ends (omega arith) q
 
 -- what a span's bytes leave up to the next block
@@ -98,7 +98,7 @@ module _ (s : List ℕ) (at : ℕ) where
     marker-is {d} {start} {end} e =
         let (w, p) = subst (kind-placed s at) e (f .placed) in
         let n : size (chars (between s start end)) ≡ end - start = between-size s start end w in
-        let l : start ≤ end = w .0 in
+        let l : start ≤ end = w .order in
         let q : end ≡ at + marker-from d + size (chars (between s start end)) = omega arith in
         two-ends p q ∙ range-case e
 
@@ -127,8 +127,8 @@ module _ (s : List ℕ) (at : ℕ) where
         → gives (record { bold = b; italic = i; code = c }, record { start = start; end = end }) ≡ here-answer s at
     unfolding here-answer
     here-is {start = start} {end = end} e =
-        let p : Within s start end = subst (span-placed s) e (w .placed) in
-        let l : end ≤ length s = p .1 in
+        let p : Inside s start end = subst (span-placed s) e (w .placed) in
+        let l : end ≤ length s = p .bound in
         let n : length s - length (drop end s) ≡ end = omega (arith, length-drop end s) in
         rw (w .read, e, text-range-is s p n)
 
@@ -240,8 +240,8 @@ module _ (s : List ℕ) (at n : ℕ) where
             let a = sym there ∙ y .read ∙ ap (span-parse s) g in
             let o : here .x ≡ record { text = chars (between s start end); bold = b; italic = i; code = c } = cc in
             let t : here .to ≡ drop end s = cc in
-            let w : Within s start end = subst (span-placed s) g (y .placed) in
-            let q : next - length (encode-spans (drop (suc n) (f .xs))) ≡ end = ends-before s (w .1) (f .within) (subst (λ (l : List ℕ). After (length (encode-spans (drop (suc n) (f .xs)))) l (drop next s)) t (here .behind)) in
+            let w : Inside s start end = subst (span-placed s) g (y .placed) in
+            let q : next - length (encode-spans (drop (suc n) (f .xs))) ≡ end = ends-before s (w .bound) (f .within) (subst (λ (l : List ℕ). After (length (encode-spans (drop (suc n) (f .xs)))) l (drop next s)) t (here .behind)) in
             let (u, v) = nth-in (here .is ∙ ap gives o) in
             record { read = u; placed = v ∙ text-range-is s w q }
 

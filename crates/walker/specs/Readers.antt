@@ -3,7 +3,7 @@
 use Prim.Native.Nat.{ℕ, _+_, _-_, _/_, _%_, _≤_}
 use mathlib.Core.Path.{_≡_}
 use mathlib.Core.List.{List}
-use Rattle.text.specs.Part.{between}
+use Rattle.text.specs.Part.{between, Inside}
 use lib.ListN.{length, drop}
 use lib.Dec.{eqb}
 use Rattle.text.specs.Utf8.{chars}
@@ -29,10 +29,6 @@ use Rattle.walker.specs.declared.Range.{Range}
 use Rattle.walker.specs.declared.Nth.{Nth}
 use Rattle.walker.specs.declared.Nth.the-variants as N
 
--- a part stands in the records
-abbrev pub Within : List ℕ → ℕ → ℕ → Type 0
-Within s start end = (start ≤ end) × (end ≤ length s)
-
 -- an integer
 abbrev pub number-parse : List ℕ → Number → Parse ℕ
 number-parse s (Value n next) = parsed n (drop next s)
@@ -52,7 +48,7 @@ part-parse s (P.At start end) = parsed (chars (between s start end)) (drop end s
 part-parse s P.Bad = failed
 
 abbrev pub part-placed : List ℕ → Part → Type 0
-part-placed s (P.At start end) = Within s start end
+part-placed s (P.At start end) = Inside s start end
 part-placed s P.Bad = Unit {0}
 
 pub record PartIs (p : Parse (List ℕ)) (s : List ℕ) (r : Part) : Type 0 where
@@ -66,7 +62,7 @@ span-parse s (S.At b i c start end) =
 span-parse s S.Bad = failed
 
 abbrev pub span-placed : List ℕ → SpanRead → Type 0
-span-placed s (S.At b i c start end) = Within s start end
+span-placed s (S.At b i c start end) = Inside s start end
 span-placed s S.Bad = Unit {0}
 
 -- the span whose map byte is m
@@ -121,7 +117,7 @@ pub record KindIs (p : Parse Kind) (s : List ℕ) (r : KindRead) : Type 0 where
 abbrev pub kind-placed : List ℕ → ℕ → K.Kind → Type 0
 kind-placed s at (KV.Heading l) = Unit {0}
 kind-placed s at KV.Paragraph = Unit {0}
-kind-placed s at (KV.Item d start end) = Within s start end × (start ≡ at + marker-from d)
+kind-placed s at (KV.Item d start end) = Inside s start end × (start ≡ at + marker-from d)
 
 -- a whole block, whose spans xs start at first
 pub record Found (s : List ℕ) (at : ℕ) (k : K.Kind) (n first next : ℕ) : Type 0 where

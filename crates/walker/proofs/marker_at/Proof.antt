@@ -9,7 +9,7 @@ marker-range-requires : tie.Need-marker-range-requires
 marker-range-requires c κs = search needs
 
 sub-result : tie.Need-sub-result
-sub-result c = let a = c .before .before .args in marker-holds (a .records .now) (a .at) (c .marker-range .ensures) .within .0
+sub-result c = let a = c .before .before .args in marker-holds (a .records .now) (a .at) (c .marker-range .ensures) .within .order
 
 part-result-start : tie.Need-part-result-start
 part-result-start c =

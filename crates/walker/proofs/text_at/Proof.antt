@@ -9,7 +9,7 @@ text-range-requires : tie.Need-text-range-requires
 text-range-requires c κs = search needs
 
 sub-result : tie.Need-sub-result
-sub-result c = let a = c .before .before .args in text-holds (a .records .now) (a .at) (a .n) (c .text-range .ensures) .within .0
+sub-result c = let a = c .before .before .args in text-holds (a .records .now) (a .at) (a .n) (c .text-range .ensures) .within .order
 
 part-result-start : tie.Need-part-result-start
 part-result-start c =

@@ -48,7 +48,7 @@ loop-again c =
     let l = c .before .before .before .before .before .loop in
     let w = c .before .before .before .span-read .ensures in
     let e = c .before .end .given .1 in
-    (span-within w e .1, spans-next (a .s .now) (l .next) w (l .left) (c .before .before .before .before .loop-test .taken) e ∙ l .inv .1)
+    (span-within w e .bound, spans-next (a .s .now) (l .next) w (l .left) (c .before .before .before .before .loop-test .taken) e ∙ l .inv .1)
 
 returns-2 : tie.Need-returns-2 Inv-loop μ-loop
 returns-2 c =
