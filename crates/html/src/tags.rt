@@ -13,7 +13,6 @@ use crate::output::spaced;
 use crate::output::unspaced;
 ghost use mathlib.Core.Path.{_≡_};
 ghost use Prim.Native.Nat.{ℕ, _+_, _^_, _≤_, _<_, min};
-ghost use mathlib.Core.Bool.{true, false};
 ghost use mathlib.Core.List.{List, _∷_, tail};
 ghost use lib.ListN.{length};
 ghost use Rattle.html.specs.State.{block, newline, marks, list-changed, item, tag, with-lists, heading, pre, br, li, tr, cell, code};

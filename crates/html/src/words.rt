@@ -10,7 +10,7 @@ use reference::Ampersand;
 ghost use mathlib.Core.Path.{_≡_};
 ghost use Prim.Native.Nat.{ℕ, _+_, _-_, _*_, _≤_, _<_};
 ghost use mathlib.Core.List.{List, _∷_};
-ghost use mathlib.Core.Bool.{true, false};
+ghost use mathlib.Core.Bool.{false};
 ghost use lib.ListN.{length, drop};
 ghost use Rattle.text.specs.Trim.{trim-start};
 ghost use Rattle.text.specs.Utf8.{IsScalar, Scalars, utf8, chars, code-at};

@@ -7,7 +7,6 @@ ghost use Rattle.text.specs.Words.{all, starts-with};
 ghost use Rattle.text.specs.Run.{RunTo};
 ghost use Rattle.text.specs.Part.{between, Inside};
 ghost use Rattle.markdown.specs.Parts.{source, text-of, quiet, CommentedIs, LineIs};
-use text::Found;
 
 // A line: a part of the Markdown, or, where a comment was removed from it, of the work buffer; and where the next line starts.
 pub struct Line {

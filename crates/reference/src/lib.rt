@@ -1,5 +1,5 @@
 // Character references: what stands between an `&` and a `;`, by `unescape` of notes.rs.
-ghost use Prim.Native.Nat.{_<_, _≤_};
+ghost use Prim.Native.Nat.{_≤_};
 ghost use mathlib.Core.Path.{_≡_};
 ghost use lib.ListN.{length, take, drop};
 ghost use Rattle.text.specs.Words.{same};

@@ -1,13 +1,11 @@
 // A line of a sheet: the characters of its text, the text of a run, a run, the runs.
 ghost use mathlib.Core.Path.{_≡_};
 ghost use mathlib.Core.List.{[], _∷_};
-ghost use Prim.Native.Nat.{_+_};
 ghost use lib.ListN.{length};
 ghost use Rattle.text.specs.Chars.{is-letter};
 ghost use Rattle.text.specs.Words.{if_then_else_};
-ghost use Rattle.html.specs.State.{special};
 ghost use Rattle.sheet.specs.Grammar.{shown, before, after, is-plain, has-em, touch};
-ghost use Rattle.sheet.specs.Reader.{referred, char, kind, one-run, line};
+ghost use Rattle.sheet.specs.Reader.{referred, char, one-run, line};
 ghost use Rattle.sheet.specs.Written.{escaped, sign, written-runs};
 ghost use Rattle.sheet.specs.Weight.{weight};
 ghost use Rattle.sheet.specs.Says.{from, Says, Tagged, Skipped};
