@@ -11,7 +11,7 @@ marker-range-requires : tie.Need-marker-range-requires
 marker-range-requires c κs = search needs
 
 by-length-requires : tie.Need-by-length-requires
-by-length-requires c κs = let a = c .before .before .args in marker-holds (a .records .now) (a .at) (c .marker-range .ensures) .within .0
+by-length-requires c κs = let a = c .before .before .args in marker-holds (a .records .now) (a .at) (c .marker-range .ensures) .within .order
 
 returns : tie.Need-returns
 returns c = c .by-length .ensures ∙ ap part-struct (c .before .marker-range .ensures)

@@ -11,7 +11,7 @@ text-range-requires : tie.Need-text-range-requires
 text-range-requires c κs = search needs
 
 by-length-requires : tie.Need-by-length-requires
-by-length-requires c κs = let a = c .before .before .args in text-holds (a .records .now) (a .at) (a .n) (c .text-range .ensures) .within .0
+by-length-requires c κs = let a = c .before .before .args in text-holds (a .records .now) (a .at) (a .n) (c .text-range .ensures) .within .order
 
 returns : tie.Need-returns
 returns c = c .by-length .ensures ∙ ap part-struct (c .before .text-range .ensures)
