@@ -1,4 +1,4 @@
-//! The search for inputs on which the port is slow: each piece of text, and each two of them, repeated to a size.
+//! The search for inputs on which the port is slow: nothing, each piece of text, and each two of them, repeated to a size.
 use crate::inputs::Kind;
 use crate::timing::{measure, number, stop, Buffers, Effort};
 use std::time::Duration;

@@ -6,14 +6,14 @@ use mathlib.Core.Bool.{Bool, true, false, not, _&&_, _||_}
 use mathlib.Core.List.{List}
 use mathlib.Core.Logic.{_⊎_, inl, inr, ⊎-elim}
 use mathlib.Core.Path.{_≡_, refl, sym, ap, _∙_}
-use borrow.Author.Tests.{eq-eqb, ltb-true, ltb-false, leb-false, le-leb, lt-leb}
+use borrow.Author.Tests.{not-false, eq-eqb, ltb-true, ltb-false, leb-false, le-leb, lt-leb}
 use lib.Dec.{eqb, ltb, leb}
 use lib.ListN.{length, getD, drop}
 use Rattle.text.specs.Words.{all}
 use Rattle.text.specs.Chars.{within, is-scalar}
 use Rattle.text.specs.Utf8.{tail, starts3, starts4, char-of, char, char-size, chars, is-utf8}
 use Rattle.text.specs.Beside.{due, in-place, used, second, fits, fits-at, AllFit, clear}
-use Rattle.text.proofs.Tests.{decide, false-true, and-true, within-true, within-is, within-below, within-above}
+use Rattle.text.proofs.Tests.{decide, false-true, and-true, or-left, or-right, within-true, within-is, within-below, within-above}
 use Rattle.text.proofs.Utf8.{two-bytes, three-bytes, four-bytes, char-drop, char-ascii}
 use Rattle.text.proofs.StartLaws.{start3-is, start4-is}
 use Rattle.text.proofs.Laws.{some-char, scalar-is}
@@ -23,18 +23,6 @@ never : (t u : Bool) → not (t && u) ≡ true → t ≡ true → u ≡ false
 never true true e h = false-true e
 never true false e h = refl
 never false u e h = false-true h
-
-not-not : (t : Bool) → not t ≡ false → t ≡ true
-not-not true e = refl
-not-not false e = false-true (sym e)
-
-either-first : (t u : Bool) → t ≡ true → t || u ≡ true
-either-first true u h = refl
-either-first false u h = false-true h
-
-either-second : (t u : Bool) → u ≡ true → t || u ≡ true
-either-second true u h = refl
-either-second false u h = h
 
 -- what the byte b at a place has beside x, y and a
 record Fit (x y a b : ℕ) : Type 0 where
@@ -50,8 +38,8 @@ fit-is x y a b e =
     let q = and-true (in-place x y a b) (used b) (p .0) in
     let r = and-true (not (tail b && not (due x y a))) (not (due x y a && not (tail b))) (q .0) in
     record {
-      due-tail = λ h. not-not (tail b) (never (due x y a) (not (tail b)) (r .1) h);
-      none-due = λ h. ⊎-elim (λ t. false-true (sym h ∙ not-not (due x y a) (never (tail b) (not (due x y a)) (r .0) t))) (λ t. t) (decide (tail b));
+      due-tail = λ h. not-false (tail b) (never (due x y a) (not (tail b)) (r .1) h);
+      none-due = λ h. ⊎-elim (λ t. false-true (sym h ∙ not-false (due x y a) (never (tail b) (not (due x y a)) (r .0) t))) (λ t. t) (decide (tail b));
       is-used = q .1;
       behind = p .1;
     }
@@ -147,13 +135,13 @@ module _ (a b c d : ℕ) where
 -- ---- where a tail is due
 module _ (x y a : ℕ) where
   due-1 : 0xC2 ≤ a → due x y a ≡ true
-  due-1 l = either-first (leb 0xC2 a || leb 0xE0 y) (leb 0xF0 x) (either-first (leb 0xC2 a) (leb 0xE0 y) (le-leb 0xC2 a l))
+  due-1 l = or-left (leb 0xC2 a || leb 0xE0 y) (leb 0xF0 x) (or-left (leb 0xC2 a) (leb 0xE0 y) (le-leb 0xC2 a l))
 
   due-2 : 0xE0 ≤ y → due x y a ≡ true
-  due-2 l = either-first (leb 0xC2 a || leb 0xE0 y) (leb 0xF0 x) (either-second (leb 0xC2 a) (leb 0xE0 y) (le-leb 0xE0 y l))
+  due-2 l = or-left (leb 0xC2 a || leb 0xE0 y) (leb 0xF0 x) (or-right (leb 0xC2 a) (leb 0xE0 y) (le-leb 0xE0 y l))
 
   due-3 : 0xF0 ≤ x → due x y a ≡ true
-  due-3 l = either-second (leb 0xC2 a || leb 0xE0 y) (leb 0xF0 x) (le-leb 0xF0 x l)
+  due-3 l = or-right (leb 0xC2 a || leb 0xE0 y) (leb 0xF0 x) (le-leb 0xF0 x l)
 
   not-due : a < 0xC2 → y < 0xE0 → x < 0xF0 → due x y a ≡ false
   not-due l m n = rw (lt-leb 0xC2 a l, lt-leb 0xE0 y m, lt-leb 0xF0 x n)

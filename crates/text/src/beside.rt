@@ -78,7 +78,7 @@ fn last_clear(s: &[u8], e: usize) -> usize
     j
 }
 
-// An offset up to which whole characters stand from i on, so that all of s is UTF-8 from i on if it is from there on. It is i where the next 32
+// An offset up to which whole characters stand from i on, so that s is UTF-8 from i on exactly if it is from there on. It is i where the next 32
 // bytes do not say.
 pub(crate) fn past_block(s: &[u8], i: usize) -> usize
     requires { ⌜ i ≤ length (now s) ⌝ }
