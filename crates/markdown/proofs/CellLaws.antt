@@ -2,7 +2,7 @@
 -- Assumes nothing.
 use Prim.Native.Nat.{ℕ, zero, suc, _≤_, _<_}
 use mathlib.Core.Bool.{Bool, true, false, and-true as and-true-right}
-use mathlib.Core.List.{List, [], _∷_, _++_, reverse}
+use mathlib.Core.List.{List, [], _∷_, _++_}
 use mathlib.Core.Logic.{inl, ⊎-elim}
 use mathlib.Core.Path.{_≡_, refl, sym, ap, _∙_}
 use borrow.Author.Tests.{eqb-true, eqb-false, eq-eqb, ne-eqb, ltb-true, ltb-false}
@@ -13,14 +13,15 @@ use lib.Seq.{take-length, take-suc}
 use Rattle.text.specs.Words.{if_then_else_, str, starts, starts-with, drop-while, take-while, trim-end-matches, trim-matches}
 use Rattle.text.specs.Utf8.{Scalars, utf8, encode, chars}
 use Rattle.text.specs.Trim.{trim}
-use Rattle.text.proofs.Tests.{decide, on, and-true, within-below}
-use Rattle.text.proofs.Laws.{chars-nil, chars-append, chars-encode, encode-chars, encode-append, scalars-drop, High, utf8-high, scalars-reverse}
+use Rattle.text.proofs.Tests.{decide, and-true, within-below}
+use Rattle.text.proofs.Laws.{chars-nil, chars-append, chars-encode, encode-chars, encode-append, scalars-drop, High, utf8-high}
 use Rattle.text.proofs.AsciiLaws.{chars-ascii}
 use Rattle.text.specs.Chars.{Ascii}
 use Rattle.text.proofs.Utf8.{utf8-1}
 use Rattle.text.proofs.TrimLaws.{end-snoc}
 use Rattle.text.proofs.Lists.{same-last, last-of}
 use Rattle.markdown.specs.Blocks.{replace, row}
+use Rattle.markdown.proofs.FitLaws.{scalars-trim}
 use Rattle.markdown.specs.Cells.{cells, dot-bytes}
 use Rattle.markdown.proofs.CommentLaws.{starts-high, starts-encode, drop-encode}
 use Rattle.markdown.proofs.RunLaws.{run-chars, same-low}
@@ -193,18 +194,6 @@ module _ (x : ℕ) (low : x < 0x80) where
   chars-run-end s = rw (take-length s) at (end-of-take (length s) s (omega arith))
 
 -- ---- a row
-scalars-while : (p : ℕ → Bool) (cs : List ℕ) → Scalars cs → Scalars (drop-while p cs)
-unfolding drop-while
-scalars-while p [] h = tt
-scalars-while p (c ∷ cs) h = on Scalars (p c) (λ _. scalars-while p cs (h .1)) (λ _. h)
-
-pub scalars-end : (p : ℕ → Bool) (cs : List ℕ) → Scalars cs → Scalars (trim-end-matches p cs)
-unfolding trim-end-matches
-scalars-end p cs h = scalars-reverse (drop-while p (reverse cs)) (scalars-while p (reverse cs) (scalars-reverse cs h))
-
-pub scalars-trim : (p : ℕ → Bool) (cs : List ℕ) → Scalars cs → Scalars (trim-matches p cs)
-scalars-trim p cs h = scalars-end p (drop-while p cs) (scalars-while p cs h)
-
 abbrev pub bar : ℕ → Bool
 bar c = eqb c 124
 

@@ -5,6 +5,7 @@ pub mod PartLaws
 pub mod RunLaws
 pub mod RuleLaws
 pub mod ShapeLaws
+pub mod FitLaws
 pub mod CellLaws
 pub mod CellFill
 pub mod StoreLaws
@@ -15,4 +16,5 @@ pub mod LineSteps
 pub mod ReadLine
 pub mod ReadAll
 pub mod CallLaws
+pub mod BlocksWf
 pub mod Examples

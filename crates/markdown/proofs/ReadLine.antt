@@ -21,7 +21,7 @@ use Rattle.markdown.specs.declared.shape.Range.{Range}
 use Rattle.markdown.specs.declared.lines.Line.{Line}
 use Rattle.markdown.specs.declared.writer.State.{State}
 use Rattle.markdown.proofs.PartLaws.{part-all, part-part}
-use Rattle.markdown.proofs.CellLaws.{scalars-trim}
+use Rattle.markdown.proofs.FitLaws.{scalars-trim}
 use Rattle.markdown.proofs.ShapeLaws.{line-blank, line-hash, line-item, line-text}
 use Rattle.markdown.proofs.StateLaws.{given-inside, text-length, steps-as}
 

@@ -2,7 +2,7 @@
 -- Assumes nothing.
 use Prim.Native.Nat.{ℕ, zero, suc, _+_, _*_, _≤_, min}
 use native.Mathlib.Omega.{arith}
-use mathlib.Core.Path.{_≡_, ap}
+use mathlib.Core.Path.{_≡_, refl, ap}
 use mathlib.Core.Bool.{true}
 use mathlib.Core.List.{List, [], _∷_, _++_, map}
 use lib.ListN.{length, length-append}
@@ -15,7 +15,7 @@ use Rattle.records.specs.Blocks as B
 use Rattle.records.specs.Format.{encode-span, encode-spans, encode-kind, encode-count, encode-block, encode-blocks}
 use Rattle.records.proofs.FormatLaws.{blocks-append, form-long}
 use Rattle.markdown.proofs.StateLaws.{count-small}
-use Rattle.sheet.specs.Tree.{Kind, Run, run, Block}
+use Rattle.sheet.specs.Tree.{Kind, plain, strong, em, both, code, Run, run, Block}
 use Rattle.sheet.specs.Grammar.{fits, IsPage}
 use Rattle.sheet.specs.Written.{span, written-run, written-runs, Row, head, text, item, rows, lead, written-row, joined, written-block, written, marker, block-of, blocks-of}
 use Rattle.sheet.proofs.Conditions.{filled-text}
@@ -26,9 +26,15 @@ use Rattle.sheet.proofs.EachLine as E
 use Rattle.sheet.proofs.WrittenLines.{GoodRuns}
 use Rattle.sheet.proofs.WrittenSize.{size-run, size-filled, size-item, size-head, size-joined, size-written}
 use Rattle.sheet.proofs.SheetReads.{good-lines}
-use Rattle.sheet.proofs.SheetWf.{span-text}
 
 -- ---- spans
+span-text : (k : Kind) (t : List ℕ) → span (run k t) .text ≡ t
+span-text plain t = refl
+span-text strong t = refl
+span-text em t = refl
+span-text both t = refl
+span-text code t = refl
+
 span-long : (k : Kind) (t : List ℕ) → length (encode-span (span (run k t))) ≤ 5 + size t
 unfolding encode-span
 span-long k t = rw (span-text k t) (omega (arith, form-long (encode t), size-encode t))

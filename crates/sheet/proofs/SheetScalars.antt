@@ -24,7 +24,7 @@ abbrev pub Texts : List Run → Type 0
 Texts [] = Unit {0}
 Texts (run k t ∷ rs) = (all is-scalar t ≡ true) × Texts rs
 
-pub rest : (c : ℕ) (s : List ℕ) → Scalars (c ∷ s) → Scalars s
+rest : (c : ℕ) (s : List ℕ) → Scalars (c ∷ s) → Scalars s
 rest c s h = h .1
 
 char-scalar : {s q m : List ℕ} → Char s q m → Scalars s → all is-scalar q ≡ true
@@ -48,7 +48,7 @@ runs-texts (more (is-run {s} {t} {m} k (G.text cs) f) ms) h = (
   runs-texts ms (run-kept Scalars rest (before k ++ s) (run k t) m (is-run k (G.text cs) f) h),
 )
 
-pub line-texts : (s : List ℕ) (l : List Run) (r : List ℕ) → Line s l r → Scalars s → Texts l
+line-texts : (s : List ℕ) (l : List Run) (r : List ℕ) → Line s l r → Scalars s → Texts l
 line-texts s l r (G.line ms f) h = runs-texts ms h
 
 pub page-texts : {s : List ℕ} {t : List Block} → IsPage s t → Scalars s → Each Texts t

@@ -8,14 +8,11 @@ use mathlib.Core.List.{List, [], _∷_, _++_, map}
 use lib.ListN.{length}
 use Rattle.text.specs.Words.{str, repeat, is-empty}
 use Rattle.text.specs.Utf8.{utf8, size}
-use Rattle.text.proofs.Tests.{and-true, false-true}
+use Rattle.text.proofs.Tests.{false-true}
 use Rattle.text.proofs.Laws.{utf8-size, size-append}
 use Rattle.html.specs.State.{special}
 use Rattle.sheet.specs.Tree.{Kind, Run, run, Block}
-use Rattle.sheet.specs.Grammar.{fits}
 use Rattle.sheet.specs.Written.{escaped, sign, written-run, written-runs, Row, head, item, lead, written-row, joined, written-block, written}
-use Rattle.sheet.proofs.Conditions.{filled-text}
-use Rattle.sheet.proofs.ReadBack.{all-fit}
 
 -- ---- a text is no longer than what is written of it
 size-escaped : (t : List ℕ) → size t ≤ size (escaped t)
@@ -35,14 +32,6 @@ pub size-filled : (t : List ℕ) → is-empty t ≡ false → 1 ≤ size t
 unfolding size
 size-filled [] e = false-true (sym e)
 size-filled (c ∷ t) e = omega (arith, utf8-size c)
-
--- as many runs as bytes, at most
-pub runs-few : (l : List Run) → all-fit l ≡ true → length l ≤ size (written-runs l)
-unfolding written-runs all-fit
-runs-few [] h = omega arith
-runs-few (run k t ∷ rs) h =
-    let f = and-true (fits k t) (all-fit rs) h in
-    omega (arith, size-append (written-run (run k t)) (written-runs rs), size-run k t, size-filled t (filled-text k t (f .0)), runs-few rs (f .1))
 
 -- ---- rows and blocks
 pub size-item : (d n : ℕ) (l : List Run) → size (written-row (item d n l)) ≡ size (repeat d "  ") + size (lead n) + size (written-runs l)
