@@ -3,7 +3,10 @@
 use Prim.Native.Nat.{ℕ, zero, suc, _+_, _-_}
 use mathlib.Core.List.{List}
 use lib.ListN.{length, drop}
+use base.Fml.{GName}
+use denote.Ref.{RefT, now}
 use Rattle.text.specs.Utf8.{size}
+use Rattle.text.specs.Part.{between}
 use Rattle.records.specs.Blocks.{Span, Kind, heading, paragraph, item, Block}
 use Rattle.records.specs.Format.{encode-spans}
 use Rattle.records.specs.Decode.{span-at}
@@ -46,6 +49,18 @@ nth-range n f = range-or-none (λ x. text-range (span-from (f .0 .spans) (f .1) 
 
 unfoldable pub text-place : List ℕ → ℕ → ℕ → Range
 text-place s at n = range-or-none (nth-range n) (found-at s at)
+
+-- The part of lent bytes at a place: it starts there in their own memory (a block, and an offset in it), and holds the bytes of the place.
+-- A reference's name is the one that proofs know it by: no program sees it.
+abbrev pub part-of : RefT (List ℕ) → Range → GName → RefT (List ℕ)
+part-of s p name = record { ptr = (s .ptr .0, p .start + s .ptr .1); name = name; now = between (now s) (p .start) (p .end) }
+
+-- the marker and the text of a span as parts of the lent records
+abbrev pub marker-part : RefT (List ℕ) → ℕ → GName → RefT (List ℕ)
+marker-part s at name = part-of s (marker-place (now s) at) name
+
+abbrev pub text-part : RefT (List ℕ) → ℕ → ℕ → GName → RefT (List ℕ)
+text-part s at n name = part-of s (text-place (now s) at n) name
 
 -- going through the spans of a block in turn: where the first one stands, or the end of a block without spans
 unfoldable pub first-answer : List ℕ → ℕ → Answer ℕ

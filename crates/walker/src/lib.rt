@@ -4,7 +4,7 @@ ghost use mathlib.Core.Path.{_≡_};
 ghost use Rattle.text.specs.Utf8.{encode};
 ghost use Rattle.walker.specs.Answers.{block-answer, marker-answer, span-answer, text-answer};
 ghost use Rattle.walker.specs.Numbers.{block-values, span-values, first-values, here-values};
-ghost use Rattle.walker.specs.Places.{marker-place, text-place, first-answer, here-answer};
+ghost use Rattle.walker.specs.Places.{marker-place, text-place, marker-part, text-part, first-answer, here-answer};
 ghost use Rattle.walker.specs.Readers.{NthIs};
 
 mod fields;
@@ -94,9 +94,9 @@ pub fn marker_range(records: &[u8], at: usize) -> Range
     Range { start, end }
 }
 
-// The marker of the item at an offset; empty where there is none.
+// The marker of the item at an offset, the part of the records that stands at its range; empty where there is none.
 pub fn marker_at(records: &[u8], at: usize) -> &[u8]
-    ensures { λ r. ⌜ now r ≡ encode (marker-answer (now (records .entry)) at) ⌝ }
+    ensures { λ r. ⌜ (now r ≡ encode (marker-answer (now (records .entry)) at)) × (r ≡ marker-part (records .entry) at (r .name)) ⌝ }
 {
     let range = marker_range(records, at);
     let start = range.start;
@@ -201,9 +201,9 @@ pub fn text_range(records: &[u8], at: usize, n: usize) -> Range
     Range { start, end }
 }
 
-// The text of a span; empty where there is none.
+// The text of a span, the part of the records that stands at its range; empty where there is none.
 pub fn text_at(records: &[u8], at: usize, n: usize) -> &[u8]
-    ensures { λ r. ⌜ now r ≡ encode (text-answer (now (records .entry)) at n) ⌝ }
+    ensures { λ r. ⌜ (now r ≡ encode (text-answer (now (records .entry)) at n)) × (r ≡ text-part (records .entry) at n (r .name)) ⌝ }
 {
     let range = text_range(records, at, n);
     let from = range.start;
@@ -296,22 +296,22 @@ impl<'a> Walker<'a> {
 
     // The marker of the item there, a part of the records.
     pub fn marker(self) -> &'a [u8]
-        ensures { λ r. ⌜ now r ≡ encode (marker-answer (now (self .entry .records)) (self .entry .at)) ⌝ }
+        ensures { λ r. ⌜ (now r ≡ encode (marker-answer (now (self .entry .records)) (self .entry .at))) × (r ≡ marker-part (self .entry .records) (self .entry .at) (r .name)) ⌝ }
     {
         marker_at(self.records, self.at)
     }
 
     // The text of a span there, a part of the records.
     pub fn text(self, n: usize) -> &'a [u8]
-        ensures { λ r. ⌜ now r ≡ encode (text-answer (now (self .entry .records)) (self .entry .at) n) ⌝ }
+        ensures { λ r. ⌜ (now r ≡ encode (text-answer (now (self .entry .records)) (self .entry .at) n)) × (r ≡ text-part (self .entry .records) (self .entry .at) n (r .name)) ⌝ }
     {
         text_at(self.records, self.at, n)
     }
 }
 
 // The block at an offset, through the struct: a caller needs the records and a number alone.
-pub fn walk(records: &[u8], at: usize) -> BlockAnswer
-    ensures { λ r. ⌜ block-values r ≡ block-answer (now (records .entry)) at ⌝ }
+pub fn walk(records: &[u8], offset: usize) -> BlockAnswer
+    ensures { λ r. ⌜ block-values r ≡ block-answer (now (records .entry)) offset ⌝ }
 {
-    Walker::new(records, at).block()
+    Walker::new(records, offset).block()
 }

@@ -1,6 +1,9 @@
--- `walker::text_at` meets its contract: the place that `text_range` answers is inside the records, and holds the bytes.
+-- `walker::text_at` meets its contract: the place that `text_range` answers is inside the records, and holds the bytes. The part is cut there.
 -- Assumes nothing.
+use mathlib.Core.Path.{ap}
 use borrow.Author.Needs.{needs}
+use Rattle.walker.specs.Places.{part-of}
+use Rattle.walker.specs.declared.Range.{Range}
 use Rattle.walker.proofs.PlaceLaws.{text-holds}
 use Rattle.walker.proofs.text_at.Statement.{statement}
 use Rattle.walker.proofs.text_at.Tie as tie
@@ -24,7 +27,10 @@ part-result-end c =
     search needs
 
 returns : tie.Need-returns
-returns c = let a = c .before .before .before .args in text-holds (a .records .now) (a .at) (a .n) (c .before .text-range .ensures) .bytes
+returns c =
+    let a = c .before .before .before .args in
+    let e = c .before .text-range .ensures in
+    (text-holds (a .records .now) (a .at) (a .n) e .bytes, ap (λ (p : Range). part-of (a .records) p (c .result .given .0)) e)
 
 pub text-at-spec : {M : Type 1} → statement M
 text-at-spec =

@@ -39,6 +39,7 @@ use denote.Exit.{yes}
 use denote.Triple.Clauses.{ensured, lasts}
 use Rattle.text.specs.Utf8.{encode}
 use Rattle.walker.specs.Answers.{marker-answer}
+use Rattle.walker.specs.Places.{marker-part}
 use Rattle.walker.specs.declared.Walker.{Walker}
 use Rattle.walker.proofs.Held.{B, R, mach, slice, Own, Lent, lends}
 use Rattle.walker.proofs.Walker as T
@@ -61,8 +62,9 @@ module _ {M : Type 1} (𝓤 : URA M) (H : Heap 𝓤) (A : Atoms 𝓤) (mem : Mem
   MarkerAt = tripleOf 𝓤 H A marker-at.signature (marker-at.spec 𝓤 H A mem run)
 
 module _ {M : Type 1} (𝓤 : URA M) (H : Heap 𝓤) (A : Atoms 𝓤) (W : Given 𝓤 H A) (mem : Memory → SProp 𝓤) (run : Routine → Fun 𝓤) (κ : Lft) (q : Share) (d : Walker) where
-  abbrev found : List ℕ
-  found = encode (marker-answer (now (d .records)) (d .at))
+  -- what is known of the result: its bytes, and which part it is
+  abbrev Answered : RefT (List ℕ) → Type 0
+  Answered r = (now r ≡ encode (marker-answer (now (d .records)) (d .at))) × (r ≡ marker-part (d .records) (d .at) (r .name))
 
   abbrev Post : Val → SProp 𝓤
   Post = walkOf 𝓤 H A marker.ended stayed (marker.clauses 𝓤 H A mem run) .post (((κ, tt), (q, tt), tt, (d, tt), (mach d ∷ [], tt)), tt)
@@ -87,10 +89,10 @@ module _ {M : Type 1} (𝓤 : URA M) (H : Heap 𝓤) (A : Atoms 𝓤) (W : Given
       move ! (2 ∷ 0 ∷ []) $ use2 W (raw (MarkerAt 𝓤 H A mem run .pre to)) asked $ frame ! $ done !
 
   -- of the callee's `ensured`, the clause alone: it has no `&mut`, so what is said of last values is dropped
-  said : (r : RefT (List ℕ)) → ent 𝓤 (ensured 𝓤 H A marker-at.ended (marker-at.clauses 𝓤 H A mem run) (κ, tt) (d .records, (d .at, tt)) tt r) (fact 𝓤 (now r ≡ found))
-  said r = exE 𝓤 _ (λ ws. snd∗ 𝓤 (sem 𝓤 H A (lasts marker-at.ended (κ, tt) (d .records, (d .at, tt)) ws)) (fact 𝓤 (now r ≡ found)))
+  said : (r : RefT (List ℕ)) → ent 𝓤 (ensured 𝓤 H A marker-at.ended (marker-at.clauses 𝓤 H A mem run) (κ, tt) (d .records, (d .at, tt)) tt r) (fact 𝓤 (Answered r))
+  said r = exE 𝓤 _ (λ ws. snd∗ 𝓤 (sem 𝓤 H A (lasts marker-at.ended (κ, tt) (d .records, (d .at, tt)) ws)) (fact 𝓤 (Answered r)))
 
-  exits : (r : RefT (List ℕ)) (u : Val) → now r ≡ found → ent 𝓤 (⋆ 𝓤 H A (‵ (R κ .own r (u ∷ [])) ∷ (‵ (flft κ q) ⊛ ‵ ftrue) ∷ ‵ (Own κ d) ∷ [])) (Post u)
+  exits : (r : RefT (List ℕ)) (u : Val) → Answered r → ent 𝓤 (⋆ 𝓤 H A (‵ (R κ .own r (u ∷ [])) ∷ (‵ (flft κ q) ⊛ ‵ ftrue) ∷ ‵ (Own κ d) ∷ [])) (Post u)
   exits r u e =
       qed W (‵ (R κ .own r (u ∷ [])) ∷ (‵ (flft κ q) ⊛ ‵ ftrue) ∷ ‵ (Own κ d) ∷ []) ∵
       suffices ! _ (ends-at 𝓤 H A marker.ended stayed (marker.clauses 𝓤 H A mem run) W (((κ, tt), (q, tt), tt, (d, tt), (mach d ∷ [], tt)), tt) u r (tt, tt) (tt, tt)) $ says ! e $
@@ -106,7 +108,7 @@ module _ {M : Type 1} (𝓤 : URA M) (H : Heap 𝓤) (A : Atoms 𝓤) (W : Given
         move ! (8 ∷ []) $ use1 W (raw (MarkerAt 𝓤 H A mem run .pre to) ⊛ ‵ (Own κ d)) (apart (wt .1 .1 .0 .fits)) $ split ! $
         calls-at ! fm (MarkerAt 𝓤 H A mem run) known to (and-then ! (load ! (from ! (stop !)) (look ! 4 refl)) (and-then ! (load ! (from ! (stop !)) (look ! 2 refl)) (no-more !))) (λ u.
         use1 W (later (some (λ (r : RefT (List ℕ)). ((‵ (flft κ q) ⊛ ‵ ftrue) ⊛ ‵ (R κ .own r (u ∷ []))) ⊛ raw (ensured 𝓤 H A marker-at.ended (marker-at.clauses 𝓤 H A mem run) (κ, tt) (d .records, (d .at, tt)) tt r)))) (id⊢ 𝓤 _) $ await ! tt $ pick ! (λ r.
-        split ! $ move ! (1 ∷ []) $ use1 W (raw (fact 𝓤 (now r ≡ found))) (said r) $ heard ! (now r ≡ found) (λ e. split ! $ move ! (1 ∷ []) $
+        split ! $ move ! (1 ∷ []) $ use1 W (raw (fact 𝓤 (Answered r))) (said r) $ heard ! (Answered r) (λ e. split ! $ move ! (1 ∷ []) $
         -- [the result; the token; what the struct owns; _3; …; _2; …; _1; …; room for _0; …]
         peeks ! (R κ) (Is (R κ)) (shows 𝓤 H A (R κ)) r (u ∷ []) (λ is.
         land ! (from ! (stop !)) (init ! 9 refl (shr-slice-lawful 𝓤 H A W (named 0) κ u8 .typed r _ is .0)) $
