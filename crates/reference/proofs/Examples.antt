@@ -1,4 +1,4 @@
--- Closed examples, by computation: document 01's specimens, and an input for each difference from the HTML standard.
+-- Closed examples, by computation: document 01's specimens, and inputs for what `reference` and the HTML standard have in common and differ in.
 -- Assumes nothing.
 use Prim.Native.Nat.{ℕ}
 use Prim.Native.String.{String}
@@ -11,7 +11,8 @@ use Rattle.text.specs.Utf8.{utf8, size}
 use Rattle.reference.specs.Unescape.{digit, digits, some-digits, from-str-radix, names, written, number, named, reference, unescaped, unescape}
 use Rattle.reference.specs.Standard.{standard}
 
--- `unescape` on texts: specimens and READINGS 17 to 19
+-- `unescape` on texts: document 01's specimens, and what its section "References" says of `nbsp`, of one `+` before the digits, and of an `&` with no
+-- reference after it, which stays, so that reading continues after it
 abbrev pub text : String → List ℕ
 text t = unescape 0 (str t)
 
@@ -24,12 +25,13 @@ pub unescape-rows :
 unfolding unescape unescaped reference named names number written from-str-radix some-digits digits digit index is-scalar is-control size utf8
 unescape-rows = refl
 
--- what follows an `&`: the step, and the standard's
+-- what follows an `&`: the step, and the standard's as far as `standard` has it
 abbrev pub both : String → Option (ℕ × ℕ) × Option (ℕ × ℕ)
 both t = (reference (str t), standard (str t))
 
+-- here the two agree; the last three are no references in the HTML standard either: it has no such name, and no digit
 pub same-rows :
-    map both ("amp;" ∷ "lt;" ∷ "gt;" ∷ "quot;" ∷ "apos;" ∷ "#65;" ∷ "#x41;" ∷ "#X1f600;" ∷ "#xFFFE;" ∷ "am;" ∷ "lt" ∷ "copy;" ∷ "AMP;" ∷ "#;" ∷ [])
+    map both ("amp;" ∷ "lt;" ∷ "gt;" ∷ "quot;" ∷ "apos;" ∷ "#65;" ∷ "#x41;" ∷ "#X1f600;" ∷ "#xFFFE;" ∷ "am;" ∷ "#;" ∷ "#x;" ∷ [])
     ≡ (some (38, 4), some (38, 4))
     ∷ (some (60, 3), some (60, 3))
     ∷ (some (62, 3), some (62, 3))
@@ -42,12 +44,11 @@ pub same-rows :
     ∷ (none, none)
     ∷ (none, none)
     ∷ (none, none)
-    ∷ (none, none)
-    ∷ (none, none)
     ∷ []
 unfolding reference standard named names number written from-str-radix some-digits digits digit index is-scalar is-control size utf8
 same-rows = refl
 
+-- here they differ. The none of `standard` at a `+` is the HTML standard's too: no digit stands there
 pub other-rows :
     map both ("nbsp;" ∷ "#+65;" ∷ "#x+41;" ∷ "#128;" ∷ "#159;" ∷ "#129;" ∷ "#0;" ∷ "#10;" ∷ "#xD800;" ∷ "#x110000;" ∷ "#000000065;" ∷ [])
     ≡ (some (32, 5), some (160, 5))
@@ -64,3 +65,11 @@ pub other-rows :
     ∷ []
 unfolding reference standard named names number written from-str-radix some-digits digits digit index is-scalar is-control size utf8
 other-rows = refl
+
+-- here we leave the `&`, and the HTML standard replaces by rules that `standard` does not have: its none says nothing of them. The HTML standard makes
+-- of these <, <x; (it knows lt without a `;` too), © and & (two of its other names), A and Ax; (a number needs no `;`)
+pub unspoken-rows :
+    map both ("lt" ∷ "ltx;" ∷ "copy;" ∷ "AMP;" ∷ "#65" ∷ "#65x;" ∷ [])
+    ≡ (none, none) ∷ (none, none) ∷ (none, none) ∷ (none, none) ∷ (none, none) ∷ (none, none) ∷ []
+unfolding reference standard named names number written from-str-radix some-digits digits digit index is-scalar is-control size utf8
+unspoken-rows = refl

@@ -1,4 +1,8 @@
--- The reference step and the HTML standard (specs/Standard.antt): where the two agree, and everything that they differ in.
+-- The reference step beside the HTML standard's, as far as `standard` (specs/Standard.antt) has that: the six names and numbers, each ended by `;`.
+-- (a) Where we replace, `standard` puts the same character, but for nbsp and a `+` (`agrees`, `nbsp-differs`).
+-- (b) Where `standard` puts a character, it is said exactly which we leave, and what we put for the others (`left-exactly`, `left-iff`).
+-- (c) Where we replace and `standard` has none, there is a `+` before the digits (`only-signed`, `signed-never`, `signed-named`).
+-- Where both have none, the laws say nothing: there the HTML standard may replace what `standard` does not speak of, as `&copy;` and `&lt` without `;`.
 -- Assumes nothing.
 use Prim.Native.Nat.{ℕ, _+_, _≤_, _<_}
 use mathlib.Core.Bool.{Bool, true, false, _||_, not}
@@ -108,7 +112,7 @@ number-own u v e =
     by true n = refl
     by false n = ap some (sym (number-yes v n .stays))
 
--- what we put for a name for which the standard puts c
+-- what we put for a name for which `standard` puts c
 pub named-standard : (u : List ℕ) (c : ℕ) → standard-named u ≡ some c → named u ≡ (if refused u then none else some (own u c))
 named-standard u c e = by (kind u)
   where
@@ -122,7 +126,7 @@ named-standard u c e = by (kind u)
         rw (m, h nbsp) (named-other u h ∙ number-own u (t .0) (t .1))
 
 -- ---- the step
--- (b) Where the standard replaces, we leave exactly what is too far away or writes a number that we refuse, and else put the same, but for nbsp.
+-- (b) Where `standard` puts a character, we leave exactly what is too far away or writes a number that we refuse, and else put the same, but for nbsp.
 pub left-exactly : (s : List ℕ) (c n : ℕ) → standard s ≡ some (c, n)
     → reference s ≡ (if far (name-of s) || refused (name-of s) then none else some (own (name-of s) c, n))
 left-exactly s c n e = by (first 59 s)
@@ -146,7 +150,7 @@ left-exactly s c n e = by (first 59 s)
         ∙ rw (near-far u, named-standard u c (g .0), inside (refused u) (own u c) (λ d. some (d, length u + 1)))
         (choose (far u) (refused u) (own u c, length u + 1) ∙ sym (rw (m, g .1)))
 
--- why we leave a name for which the standard puts a character
+-- why we leave a name for which `standard` puts a character
 pub data Reason (name : List ℕ) : Type 0 where
   too-far : 10 < 1 + size name → Reason name
   a-control : (v : ℕ) → numeric name ≡ some v → is-control v ≡ true → Reason name
@@ -192,7 +196,7 @@ left-iff s c n e = (λ l. true-reason (name-of s) (to _ _ (sym (left-exactly s c
     to true x l = refl
     to false x l = cc
 
--- (a) Where we replace, the standard puts the same character, but for nbsp and a `+`.
+-- (a) Where we replace, `standard` puts the same character, but for nbsp and a `+`.
 meant-entity : (k : Word) → same (str "nbsp") (str (spelling k)) ≡ false → entity k ≡ meant k
 meant-entity amp e = refl
 meant-entity lt e = refl
@@ -259,7 +263,8 @@ pub agrees-no-plus : (s : List ℕ) (c n : ℕ) → reference s ≡ some (c, n) 
     → standard s ≡ some (c, n)
 agrees-no-plus s c n e b p = agrees s c n e b (no-plus (name-of s) p)
 
--- (c) What we replace and the standard does not has a `+` before its digits, and the standard replaces no such name.
+-- (c) What we replace and `standard` does not has a `+` before its digits, and `standard` has none for each such name. There the HTML standard leaves
+-- the `&`: its "Decimal" and "Hexadecimal character reference start state" find no digit.
 pub only-signed : (s : List ℕ) (c n : ℕ) → reference s ≡ some (c, n) → standard s ≡ none → signed (name-of s) ≡ true
 only-signed s c n e l =
     let r = replaced s c n e in

@@ -1,6 +1,7 @@
 -- Character references by the WHATWG HTML standard, section 13.2.5 (Tokenization): the numeric ones, and of the named ones those that
--- `unescape` of notes.rs knows, each ended by a `;`. What its parse errors are is left out: they change no character.
--- Nothing but proofs/StandardLaws.antt uses this.
+-- `unescape` of notes.rs knows, each ended by a `;`. The standard's other names, and names and numbers that no `;` ends, are not written down
+-- here (see `standard`). What its parse errors are is left out: they change no character.
+-- Only what compares the two (proofs/StandardLaws.antt, StandardNumbers.antt and Examples.antt) uses this.
 -- Assumes nothing.
 use Prim.Native.Nat.{ℕ, _+_, _-_, _*_}
 use Prim.Native.String.{String}
@@ -62,11 +63,14 @@ numeric name =
 unfoldable pub entities : List (String × ℕ)
 entities = ("amp", 0x26) ∷ ("lt", 0x3C) ∷ ("gt", 0x3E) ∷ ("quot", 0x22) ∷ ("apos", 0x27) ∷ ("nbsp", 0xA0) ∷ []
 
--- the character that the standard puts for the name between an `&` and the first `;` after it
+-- the character that the standard puts for the name between an `&` and the first `;` after it, where that is one of the six or a number
 unfoldable pub standard-named : List ℕ → Option ℕ
 standard-named name = case (lookup entities name) (numeric name >>= λ v. some (end-state v)) some
 
--- the same at what follows an `&`, with the count of characters, as in `reference`
+-- the same at what follows an `&`, with the count of characters, as in `reference`.
+-- none: nothing of these forms stands there. That is not to say that the standard leaves the `&`. It does so where `#` or `#x` has no digit after
+-- it (`&#;`, `&#+65;`) and where it knows no name (`&am;`); but by rules that are not written down here it replaces its other names (`&copy;`,
+-- `&AMP;`), names that it knows without a `;` (`&lt`, also in `&ltx;`), and numbers that something else ends (`&#65`, `&#65x;`).
 unfoldable pub standard : List ℕ → Option (ℕ × ℕ)
 unfolding table row end-state add-digits decimal hexadecimal numeric entities standard-named
 standard s = find ";" s >>= λ end. standard-named (take end s) >>= λ c. some (c, end + 1)
