@@ -1,4 +1,4 @@
-// The lists of a sheet: list reader and item reader call each other.
+// The lists of a sheet: list reader and item reader call each other, the remaining bytes and the levels falling.
 ghost use mathlib.Core.Path.{_≡_};
 ghost use Prim.Native.Nat.{_-_, _≤_};
 ghost use lib.ListN.{length};
