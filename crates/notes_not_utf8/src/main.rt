@@ -1,0 +1,1 @@
+../../notes/src/main.rt
