@@ -1,10 +1,12 @@
-// The program `notes` as a function, so that it is proved once, however many programs run it.
+// The program `notes` as a function on slices: no contract can say what a program reads or writes, so this one says what it writes for what it read.
 ghost use mathlib.Core.Path.{_≡_};
 ghost use Prim.Native.Nat.{_+_};
+ghost use lib.ListN.{length};
+ghost use lib.Seq.{sets};
+ghost use Rattle.text.specs.Outcome.{front};
 ghost use Rattle.html.specs.Answers.{answer-number};
+ghost use Rattle.filter.specs.Program.{refusal, page-text, program-text};
 use html::Answer;
-use libc::STDIN_FILENO;
-use libc::STDOUT_FILENO;
 
 // Document 01's number of a refusal, as a digit.
 fn digit(a: Answer) -> u8
@@ -19,38 +21,43 @@ fn digit(a: Answer) -> u8
     }
 }
 
-fn refuse(a: Answer) {
-    let line = [b' ', digit(a), b'\n'];
-    io::write_all(STDOUT_FILENO, b"refused");
-    io::write_all(STDOUT_FILENO, &line);
+// The bytes of s in the front of out, and how many they are.
+fn line(s: &[u8], out: &mut [u8]) -> usize
+    ensures { λ r. ⌜ (r ≡ length (now (s .entry))) × (now (out .exit) ≡ sets (now (out .entry)) 0 (now (s .entry))) ⌝ }
+{
+    records::writer::put_bytes(out, 0, s);
+    s.len()
 }
 
-// The first n bytes of the result, and byte 10.
-fn show(result: &[u8], n: usize) {
-    io::write_all(STDOUT_FILENO, text::front(result, n));
-    io::write_all(STDOUT_FILENO, b"\n");
+// The line of a refusal in the front of out, its digit at the place of the 0.
+fn refuse(a: Answer, out: &mut [u8]) -> usize
+    ensures { λ r. ⌜ (r ≡ length (refusal (answer-number a))) × (now (out .exit) ≡ sets (now (out .entry)) 0 (refusal (answer-number a))) ⌝ }
+{
+    let mut bytes = *b"refused 0\n";
+    bytes[8] = digit(a);
+    line(&bytes, out)
 }
 
-// The page's Markdown. The work buffer is 2 × 16,384 + 16,384 bytes.
-fn convert(page: &[u8]) {
+// The page's Markdown and byte 10, or the refusal. The Markdown goes straight into the front of out; the work buffer is 2 × 16,384 + 16,384 bytes.
+fn convert(page: &[u8], out: &mut [u8]) -> usize
+    requires { ⌜ length (now out) ≡ 32001 ⌝ }
+    ensures { λ r. ⌜ (r ≡ length (page-text (now (page .entry)))) × (now (out .exit) ≡ front (page-text (now (page .entry))) (now (out .entry))) ⌝ }
+{
     let mut work = [0u8; 49152];
-    let mut result = [0u8; 32000];
-    let a = html::html_to_markdown(page, &mut work, &mut result);
+    let a = html::html_to_markdown(page, &mut work, &mut out[..32000]);
     let Answer::Length(n) = a else {
-        refuse(a);
-        return;
+        return refuse(a, out);
     };
-    show(&result, n);
+    out[n] = b'\n';
+    n + 1
 }
 
-// Reads a page of at most 16,384 bytes from standard input and writes its Markdown and byte 10. A refusal writes `refused`, 32, its number and
-// byte 10; longer input writes `too long` and byte 10. No contract can speak of what is read or written.
-pub fn run() {
-    let mut input = [0u8; 16385];
-    let n = io::read_full(STDIN_FILENO, &mut input);
-    if 16384 < n {
-        io::write_all(STDOUT_FILENO, b"too long\n");
-        return;
+// What the program writes for its input, in the front of out, and how many bytes that is. Of an input that is too long, any 16,385 bytes will do.
+pub fn filtered(input: &[u8], out: &mut [u8; 32001]) -> usize
+    ensures { λ r. ⌜ (r ≡ length (program-text (now (input .entry)))) × (now (out .exit) ≡ front (program-text (now (input .entry))) (now (out .entry))) ⌝ }
+{
+    if 16384 < input.len() {
+        return line(b"too long\n", out);
     }
-    convert(&input[..n]);
+    convert(input, out)
 }

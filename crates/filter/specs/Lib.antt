@@ -1,0 +1,2 @@
+-- What the program `notes` writes.
+pub mod Program
