@@ -113,11 +113,11 @@ module _ (page : List ℕ) (u : is-utf8 page ≡ true) where
       unfolding loop finish trim-end-matches drop-while
       call-empty z = call-loop (some new) (rw (z, chars-nil))
 
-      pub call-wrote : (c : Converter) (l work : List ℕ) → some (state-of c l work) ≡ loop 0 (chars (take n page)) new → c .len ≤ length work
+      pub call-wrote : (c : Converter) (work : List ℕ) → some (state-of c work) ≡ loop 0 (chars (take n page)) new → c .len ≤ length work
           → html-to-markdown-call page w r ≡ wrote (encode (take 8000 (trim (chars (take (c .len) work)))))
       unfolding finish state-of out-of
-      call-wrote c l work q m =
-          call-loop (some (state-of c l work)) q
+      call-wrote c work q m =
+          call-loop (some (state-of c work)) q
           ∙ ap (λ (x : List ℕ). wrote (encode (take 8000 (trim x)))) (reverse-reverse (chars (written (c .len) work)) ∙ ap chars (written-take (c .len) work m))
 
 pub call-1 : (page : List ℕ) (w r : ℕ) → is-utf8 page ≡ false → html-to-markdown-call page w r ≡ refused 1
@@ -140,10 +140,10 @@ unfolding trim-end-matches drop-while
 notes-none work n e = rw (e, chars-nil)
 
 -- a refusal, and a state
-pub no : (t : Tagged) (l w : List ℕ) → t .ok ≡ false → none ≡ tagged t l w
+pub no : (t : Tagged) (w : List ℕ) → t .ok ≡ false → none ≡ tagged t w
 unfolding tagged
-no t l w h = rw h
+no t w h = rw h
 
-pub yes : (t : Tagged) (l w : List ℕ) → t .ok ≡ true → some (state-of (t .state) l w) ≡ tagged t l w
+pub yes : (t : Tagged) (w : List ℕ) → t .ok ≡ true → some (state-of (t .state) w) ≡ tagged t w
 unfolding tagged
-yes t l w h = rw h
+yes t w h = rw h

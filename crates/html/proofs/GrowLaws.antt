@@ -22,13 +22,13 @@ use Rattle.html.specs.declared.Converter.{Converter}
 use Rattle.html.proofs.OutLaws.{size-out}
 
 -- how long the output is: by the state, and after a step that makes it at most k longer
-pub len-of : (r : Converter) (l w : List ℕ) (s : State) → state-of r l w ≡ s → r .len ≡ size (s .out)
+pub len-of : (r : Converter) (w : List ℕ) (s : State) → state-of r w ≡ s → r .len ≡ size (s .out)
 unfolding state-of
-len-of r l w s e = sym (size-out (r .len) w) ∙ ap (λ (t : State). size (t .out)) e
+len-of r w s e = sym (size-out (r .len) w) ∙ ap (λ (t : State). size (t .out)) e
 
 pub grown : (f : State → State) (k : ℕ) → ((s : State) → size (f s .out) ≤ size (s .out) + k) → (a r : Converter) (w w' : List ℕ)
-    → ((l : List ℕ) → state-of r l w' ≡ f (state-of a l w)) → r .len ≤ a .len + k
-grown f k g a r w w' e = omega (arith, len-of r [] w' _ (e []), g (state-of a [] w), len-of a [] w _ refl)
+    → state-of r w' ≡ f (state-of a w) → r .len ≤ a .len + k
+grown f k g a r w w' e = omega (arith, len-of r w' _ e, g (state-of a w), len-of a w _ refl)
 
 -- ---- texts
 digits-ascii : (k n : ℕ) → Ascii (digits k n)
@@ -59,7 +59,7 @@ pub grow-times : (k b : ℕ) → b < 0x80 → (c : State) → size (push-str (re
 grow-times k b h c = omega (arith, grow-str (replicate k b) (ascii-times k b h) c, length-replicate k b)
 
 -- ---- the steps
-size-spaces : (o : List ℕ) → size (drop-while (is " ") o) ≤ size o
+pub size-spaces : (o : List ℕ) → size (drop-while (is " ") o) ≤ size o
 unfolding drop-while size
 size-spaces [] = omega arith
 size-spaces (b ∷ o) = let h = size-spaces o in on (λ (l : List ℕ). size l ≤ size (b ∷ o)) (eqb b 32) (λ _. omega arith) (λ _. omega arith)

@@ -6,6 +6,7 @@ pub mod NameLaws
 pub mod TextLaws
 pub mod AboveLaws
 pub mod SkipLaws
+pub mod KeptLaws
 pub mod FitLaws
 pub mod TurnLaws
 pub mod LoopLaws

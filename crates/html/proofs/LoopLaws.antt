@@ -15,7 +15,7 @@ use Rattle.html.specs.Page.{turn, loop}
 use Rattle.html.specs.Struct.{state-of, lists-of, number, turned, left}
 use Rattle.html.specs.declared.Converter.{Converter}
 use Rattle.html.specs.declared.Turned.{Turned}
-use Rattle.html.proofs.GrowLaws.{len-of}
+use Rattle.html.proofs.GrowLaws.{len-of, size-spaces}
 use Rattle.html.proofs.StepLaws.{depth-is, lists-is}
 use Rattle.html.proofs.FitLaws.{Fit, fit-new, fit-more, OnTurn, turn-fit}
 use Rattle.html.proofs.TurnLaws.{loop-left, loop-full, loop-end, kept}
@@ -30,66 +30,72 @@ unfolding size
 some-of [] h = h
 some-of (x ∷ cs) h = omega arith
 
-turned-yes : (r : Turned) (l w html : List ℕ) → r .ok ≡ true → turned r l w html ≡ some (chars (drop (r .next) html), state-of (r .state) l w)
+turned-yes : (r : Turned) (w html : List ℕ) → r .ok ≡ true → turned r w html ≡ some (chars (drop (r .next) html), state-of (r .state) w)
 unfolding turned
-turned-yes r l w html h = rw h
+turned-yes r w html h = rw h
 
-pub record Going (html l out : List ℕ) (c : Converter) (at : ℕ) : Type 0 where
-  pub same : loop 0 (chars (drop at html)) (state-of c l out) ≡ loop 0 (chars html) new
+pub record Going (html out : List ℕ) (c : Converter) (at : ℕ) : Type 0 where
+  pub same : loop 0 (chars (drop at html)) (state-of c out) ≡ loop 0 (chars html) new
   pub valid : Scalars (chars (drop at html))
   pub bound : at ≤ length html
-  pub fit : Fit at (2 * length html + 16384) (state-of c l out)
+  pub fit : Fit (2 * length html + 16384) (state-of c out)
 
-pub going-new : (html l out : List ℕ) (c : Converter) → state-of c l out ≡ new → Scalars (chars html) → Going html l out c 0
-going-new html l out c e v =
+pub going-new : (html out : List ℕ) (c : Converter) → state-of c out ≡ new → Scalars (chars html) → Going html out c 0
+going-new html out c e v =
     record {
       same = ap (loop 0 (chars html)) e;
       valid = v;
       bound = omega arith;
-      fit = rw e (fit-more 0 0 0 (2 * length html + 16384) new (omega arith) (omega arith) fit-new);
+      fit = rw e (fit-more 0 (2 * length html + 16384) new (omega arith) fit-new);
     }
 
-module _ (html l out : List ℕ) (c : Converter) (at : ℕ) (g : Going html l out c at) where
+module _ (html out : List ℕ) (c : Converter) (at : ℕ) (g : Going html out c at) where
   pub len-most : c .len ≤ 2 * length html + 16384
-  len-most = omega (arith, len-of c l out _ refl, g .fit .short)
+  len-most = omega (arith, len-of c out _ refl, g .fit .short)
 
   pub few-lists : c .depth ≤ 64
-  few-lists = omega (arith, depth-is c l out _ refl, g .fit .few)
+  few-lists = omega (arith, depth-is c out _ refl, g .fit .few)
 
-  pub small-number : number (lists-of c l) ≤ at
-  small-number = rw (lists-is c l out _ refl) (top at (state-of c l out .lists) (g .fit .small 0))
+  -- each item begun has left its number in the output, which is not full yet
+  pub small-number : c .len < 16000 → number (lists-of c) ≤ 16000
+  small-number h =
+      let o = state-of c out .out in
+      let n : getD (state-of c out .lists) 0 0 ≤ 16000 = omega (arith, g .fit .small 0, size-spaces o, len-of c out _ refl) in
+      rw (lists-is c out _ refl) (top 16000 (state-of c out .lists) n)
 
-  pub going-full : 16000 ≤ c .len → some (state-of c l out) ≡ loop 0 (chars html) new
-  going-full h = sym (loop-full (chars (drop at html)) (state-of c l out) (omega (arith, len-of c l out _ refl))) ∙ g .same
+  pub going-full : 16000 ≤ c .len → some (state-of c out) ≡ loop 0 (chars html) new
+  going-full h = sym (loop-full (chars (drop at html)) (state-of c out) (omega (arith, len-of c out _ refl))) ∙ g .same
 
-  pub going-end : length html ≤ at → some (state-of c l out) ≡ loop 0 (chars html) new
-  going-end h = sym (loop-end html at (state-of c l out) h) ∙ g .same
+  pub going-end : length html ≤ at → some (state-of c out) ≡ loop 0 (chars html) new
+  going-end h = sym (loop-end html at (state-of c out) h) ∙ g .same
 
-  module _ (p : at < length html) (s : c .len < 16000) (r : Turned) (l' out' : List ℕ)
-      (e : turned r l' out' html ≡ left (chars (drop at html)) (turn (chars (drop at html)) (state-of c l out)))
+  module _ (p : at < length html) (s : c .len < 16000) (r : Turned) (out' : List ℕ)
+      (e : turned r out' html ≡ left (chars (drop at html)) (turn (chars (drop at html)) (state-of c out)))
     where
       rest-some : 0 < length (chars (drop at html))
       rest-some = some-of (chars (drop at html)) (omega (arith, size-chars (drop at html), length-drop at html))
 
-      whole : (o : Option (List ℕ × State)) → turned r l' out' html ≡ o → (o >>= λ p. loop 0 (p .0) (p .1)) ≡ loop 0 (chars html) new
+      whole : (o : Option (List ℕ × State)) → turned r out' html ≡ o → (o >>= λ p. loop 0 (p .0) (p .1)) ≡ loop 0 (chars html) new
       whole o q =
           ap (λ (x : Option (List ℕ × State)). x >>= λ p. loop 0 (p .0) (p .1)) (sym q ∙ e)
-          ∙ sym (loop-left (chars (drop at html)) (state-of c l out) rest-some (omega (arith, len-of c l out _ refl)))
+          ∙ sym (loop-left (chars (drop at html)) (state-of c out) rest-some (omega (arith, len-of c out _ refl)))
           ∙ g .same
 
       pub going-refused : r .ok ≡ false → none ≡ loop 0 (chars html) new
       unfolding turned
       going-refused h = whole none (rw h)
 
-      pub going-next : r .ok ≡ true → at < r .next → r .next ≤ length html → at < 2 ^ 64 → Going html l' out' (r .state) (r .next)
-      going-next h a b m =
-          let q = turned-yes r l' out' html h in
-          let k = kept (chars (drop at html)) (chars (drop (r .next) html)) (state-of c l out) (state-of (r .state) l' out') (sym q ∙ e) in
-          let f = turn-fit at 15999 (chars (drop at html)) (state-of c l out) (record { few = g .fit .few; small = g .fit .small; short = omega (arith, len-of c l out _ refl) }) m in
-          let z = subst (OnTurn (Fit (at + 1) (15999 + 150 + 2 * size (chars (drop at html))))) (k .is) f in
+      pub going-next : r .ok ≡ true → at < r .next → r .next ≤ length html → Going html out' (r .state) (r .next)
+      going-next h a b =
+          let q = turned-yes r out' html h in
+          let k = kept (chars (drop at html)) (chars (drop (r .next) html)) (state-of c out) (state-of (r .state) out') (sym q ∙ e) in
+          let n : getD (state-of c out .lists) 0 0 < 2 ^ 64 = omega (arith, g .fit .small 0, size-spaces (state-of c out .out), len-of c out _ refl) in
+          let now : Fit 15999 (state-of c out) = record { few = g .fit .few; small = g .fit .small; short = omega (arith, len-of c out _ refl) } in
+          let f = turn-fit 15999 (chars (drop at html)) (state-of c out) now n in
+          let z = subst (OnTurn (Fit (15999 + 150 + 2 * size (chars (drop at html))))) (k .is) f in
           record {
-            same = whole (some (chars (drop (r .next) html), state-of (r .state) l' out')) q;
+            same = whole (some (chars (drop (r .next) html), state-of (r .state) out')) q;
             valid = subst Scalars (k .rest) (scalars-drop (k .count) (chars (drop at html)) (g .valid));
             bound = b;
-            fit = fit-more (at + 1) (15999 + 150 + 2 * size (chars (drop at html))) (r .next) (2 * length html + 16384) (state-of (r .state) l' out') (omega arith) (omega (arith, size-chars (drop at html), length-drop at html)) z;
+            fit = fit-more (15999 + 150 + 2 * size (chars (drop at html))) (2 * length html + 16384) (state-of (r .state) out') (omega (arith, size-chars (drop at html), length-drop at html)) z;
           }

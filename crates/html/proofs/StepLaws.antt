@@ -7,10 +7,11 @@ use native.Mathlib.Numerals.{add-one, sub-one}
 use mathlib.Core.Path.{_≡_, refl, sym, ap, ap₂, _∙_}
 use mathlib.Core.Bool.{Bool, true, false, _||_}
 use mathlib.Core.Option.{some, none}
-use mathlib.Core.List.{List, [], _∷_, _++_, reverseAux, reverseAux-append, tail}
+use mathlib.Core.List.{List, [], _∷_, _++_, map, reverseAux, reverseAux-append, tail}
 use lib.ListN.{length, getD, set, replicate}
 use lib.Seq.{getD-set-same, getD-set-other}
 use borrow.Author.Tests.{le-leb, lt-leb}
+use mir.Val.{boolByte}
 use Rattle.text.specs.Words.{if_then_else_, drop-while, is, is-empty, starts, repeat, str}
 use Rattle.text.specs.Utf8.{utf8, size}
 use Rattle.text.proofs.Utf8.{utf8-1}
@@ -45,17 +46,25 @@ upto-top n l v h k =
     let i : n ≡ n - 1 + 1 = omega arith in
     ap (λ (m : ℕ). upto m (set l (n - 1) v)) i ∙ upto-push (n - 1) l v (omega arith) ∙ sym (ap (λ (x : List ℕ). v ∷ tail x) (upto-last n l h))
 
--- ---- the open lists, by the struct
-pub lists-is : (r : Converter) (l w : List ℕ) (s : State) → state-of r l w ≡ s → lists-of r l ≡ s .lists
-unfolding state-of
-lists-is r l w s e = ap (λ (t : State). t .lists) e
+-- an array's elements as the logic has them in a struct, counted
+pub length-same : (l : List ℕ) (n : ℕ) → length (map (λ (x : ℕ). x) l) ≡ n → length l ≡ n
+length-same l n e = sym (same l) ∙ e
+  where
+    same : (l : List ℕ) → length (map (λ (x : ℕ). x) l) ≡ length l
+    same [] = refl
+    same (x ∷ l) = ap suc (same l)
 
-pub depth-is : (r : Converter) (l w : List ℕ) (s : State) → state-of r l w ≡ s → r .depth ≡ length (s .lists)
-depth-is r l w s e = sym (length-upto (r .depth) l) ∙ ap length (lists-is r l w s e)
+-- ---- the open lists, by the struct
+pub lists-is : (r : Converter) (w : List ℕ) (s : State) → state-of r w ≡ s → lists-of r ≡ s .lists
+unfolding state-of
+lists-is r w s e = ap (λ (t : State). t .lists) e
+
+pub depth-is : (r : Converter) (w : List ℕ) (s : State) → state-of r w ≡ s → r .depth ≡ length (s .lists)
+depth-is r w s e = sym (length-upto (r .depth) (r .lists)) ∙ ap length (lists-is r w s e)
 
 -- two structs with the same open lists
-pub like : (a r : Converter) (l : List ℕ) → lists-of r l ≡ lists-of a l → r .depth ≡ a .depth
-like a r l e = sym (length-upto (r .depth) l) ∙ ap length e ∙ length-upto (a .depth) l
+pub like : (a r : Converter) → lists-of r ≡ lists-of a → r .depth ≡ a .depth
+like a r e = sym (length-upto (r .depth) (r .lists)) ∙ ap length e ∙ length-upto (a .depth) (a .lists)
 
 -- ---- `block` and `newline`
 pub empty-yes : (n : ℕ) (w : List ℕ) → n ≡ 0 → is-empty (out-of n w) ≡ true
@@ -70,10 +79,10 @@ pub empty-no : (n : ℕ) (w : List ℕ) → (n ≡ 0 → ⊥) → is-empty (out-
 empty-no n w h = some-size (out-of n w) n (size-out n w) h
 
 -- the state without the spaces at the output's end
-pub cleared : (a : Converter) (n : ℕ) (l w : List ℕ) → out-of n w ≡ drop-while (is " ") (out-of (a .len) w)
-    → with-out (out-of n w) false (state-of a l w) ≡ unspaced (state-of a l w)
-unfolding state-of unspaced
-cleared a n l w e = ap (λ (o : List ℕ). with-out o false (state-of a l w)) e
+pub cleared : (n k : ℕ) (w : List ℕ) (s : State) → out-of n w ≡ drop-while (is " ") (out-of k w)
+    → with-out (out-of n w) false s ≡ unspaced (with-out (out-of k w) false s)
+unfolding unspaced
+cleared n k w s e = ap (λ (o : List ℕ). with-out o false s) e
 
 module _ (u c : State) (e : u ≡ unspaced c) where
   out-is : u .out ≡ drop-while (is " ") (c .out)
@@ -165,11 +174,11 @@ pub changed-some : (l : List ℕ) (c : State) → is-empty l ≡ false → newli
 unfolding list-changed
 changed-some l c e = rw e
 
-pub none-of : (a : Converter) (l : List ℕ) → a .depth ≡ 0 → is-empty (lists-of a l) ≡ true
-none-of a l h = ap (λ (n : ℕ). is-empty (upto n l)) h
+pub none-of : (a : Converter) → a .depth ≡ 0 → is-empty (lists-of a) ≡ true
+none-of a h = ap (λ (n : ℕ). is-empty (upto n (a .lists))) h
 
-pub some-of : (a : Converter) (l : List ℕ) → (a .depth ≡ 0 → ⊥) → is-empty (lists-of a l) ≡ false
-some-of a l h = ap is-empty (upto-last (a .depth) l (omega arith))
+pub some-of : (a : Converter) → (a .depth ≡ 0 → ⊥) → is-empty (lists-of a) ≡ false
+some-of a h = ap is-empty (upto-last (a .depth) (a .lists) (omega arith))
 
 pub list-full : (first : ℕ) (c : State) → 64 ≤ length (c .lists) → none ≡ list-tag first false c
 unfolding list-tag
@@ -180,15 +189,12 @@ unfolding list-tag
 list-opened first c h = rw (lt-leb _ _ h)
 
 -- ---- a tag's step
-pub listed-ul : (closing : Bool) (c : State) → list-tag 0 closing c ≡ listed ul closing c
+pub listed-list : (ordered closing : Bool) (c : State) → list-tag (boolByte ordered) closing c ≡ listed (if ordered then ol else ul) closing c
 unfolding list-tag listed tag
-listed-ul true c = refl
-listed-ul false c = refl
-
-pub listed-ol : (closing : Bool) (c : State) → list-tag 1 closing c ≡ listed ol closing c
-unfolding list-tag listed tag
-listed-ol true c = refl
-listed-ol false c = refl
+listed-list true true c = refl
+listed-list true false c = refl
+listed-list false true c = refl
+listed-list false false c = refl
 
 no-list : (t : Tag) (closing : Bool) (c : State) → is-list t ≡ false → some (tag t closing c) ≡ listed t closing c
 unfolding listed
@@ -215,13 +221,13 @@ pub heading-open : (k : ℕ) (b : State) → push-str (32 ∷ []) (push-str (rep
 heading-open k b = rw (reverseAux-append (repeat k "#") (32 ∷ []) (b .out), hashes-is k (b .out))
 
 -- what the calls of `heading` answered, put together
-pub heading-written : (b : Converter) (l w w1 w2 : List ℕ) (k i m : ℕ) (c : State) → state-of b l w ≡ block c
+pub heading-written : (b : Converter) (w w1 w2 : List ℕ) (k i m : ℕ) (c : State) → state-of b w ≡ block c
     → out-of i w1 ≡ reverseAux (replicate k 35) (out-of (b .len) w) → out-of m w2 ≡ 32 ∷ out-of i w1
-    → with-out (out-of m w2) (b .space) (state-of b l w) ≡ push-str (repeat k "#" ++ str " ") (block c)
+    → with-out (out-of m w2) (b .space) (state-of b w) ≡ push-str (repeat k "#" ++ str " ") (block c)
 unfolding state-of
-heading-written b l w w1 w2 k i m c e f g =
-    ap (λ (o : List ℕ). with-out o (b .space) (state-of b l w)) (g ∙ ap (λ (o : List ℕ). 32 ∷ o) f)
-    ∙ heading-open k (state-of b l w)
+heading-written b w w1 w2 k i m c e f g =
+    ap (λ (o : List ℕ). with-out o (b .space) (state-of b w)) (g ∙ ap (λ (o : List ℕ). 32 ∷ o) f)
+    ∙ heading-open k (state-of b w)
     ∙ ap (push-str (repeat k "#" ++ str " ")) e
 
 -- `code` in and outside `pre`
@@ -234,20 +240,20 @@ unfolding tag
 code-out closing c h = sym (ap (λ (t : Bool). if t then c else marks (str "`") closing c) h)
 
 -- ---- what the calls of `list` and `item` answered, put together
-pub list-closes : (first : ℕ) (a k r : Converter) (l w w' : List ℕ) → state-of k l w ≡ with-lists (tail (lists-of a l)) (state-of a l w)
-    → state-of r l w' ≡ list-changed (lists-of k l) (state-of k l w) → some (state-of r l w') ≡ list-tag first true (state-of a l w)
+pub list-closes : (first : ℕ) (a k r : Converter) (w w' : List ℕ) → state-of k w ≡ with-lists (tail (lists-of a)) (state-of a w)
+    → state-of r w' ≡ list-changed (lists-of k) (state-of k w) → some (state-of r w') ≡ list-tag first true (state-of a w)
 unfolding list-tag list-changed
-list-closes first a k r l w w' e f =
-    let m = lists-is a l w _ refl in
-    ap some (f ∙ ap (λ (x : List ℕ). list-changed x (state-of k l w)) (lists-is k l w _ e ∙ ap tail m) ∙ ap (list-changed (tail (state-of a l w .lists))) e)
+list-closes first a k r w w' e f =
+    let m = lists-is a w _ refl in
+    ap some (f ∙ ap (λ (x : List ℕ). list-changed x (state-of k w)) (lists-is k w _ e ∙ ap tail m) ∙ ap (list-changed (tail (state-of a w .lists))) e)
 
-pub list-opens : (first : ℕ) (a k r : Converter) (l l' w w' : List ℕ) → a .depth < 64 → state-of k l' w ≡ with-lists (first ∷ lists-of a l) (state-of a l w)
-    → state-of r l' w' ≡ list-changed (lists-of k l') (state-of k l' w) → some (state-of r l' w') ≡ list-tag first false (state-of a l w)
+pub list-opens : (first : ℕ) (a k r : Converter) (w w' : List ℕ) → a .depth < 64 → state-of k w ≡ with-lists (first ∷ lists-of a) (state-of a w)
+    → state-of r w' ≡ list-changed (lists-of k) (state-of k w) → some (state-of r w') ≡ list-tag first false (state-of a w)
 unfolding list-changed
-list-opens first a k r l l' w w' h e f =
-    let m = lists-is a l w _ refl in
-    ap some (f ∙ ap (λ (x : List ℕ). list-changed x (state-of k l' w)) (lists-is k l' w _ e ∙ ap (λ (x : List ℕ). first ∷ x) m) ∙ ap (list-changed (first ∷ state-of a l w .lists)) e)
-    ∙ list-opened first (state-of a l w) (omega (arith, depth-is a l w _ refl))
+list-opens first a k r w w' h e f =
+    let m = lists-is a w _ refl in
+    ap some (f ∙ ap (λ (x : List ℕ). list-changed x (state-of k w)) (lists-is k w _ e ∙ ap (λ (x : List ℕ). first ∷ x) m) ∙ ap (list-changed (first ∷ state-of a w .lists)) e)
+    ∙ list-opened first (state-of a w) (omega (arith, depth-is a w _ refl))
 
 -- the innermost list's number stands at the array's end
 pub number-is : (n : ℕ) (l : List ℕ) → 0 < n → number (upto n l) ≡ getD l (n - 1) 0
@@ -257,36 +263,36 @@ number-is n l h = ap number (upto-last n l h)
 twice : (n : ℕ) (l : List ℕ) → 2 * (n - 1) ≡ 2 * length (upto (n - 1) l)
 twice n l = ap (λ (m : ℕ). 2 * m) (sym (length-upto (n - 1) l))
 
-module _ (a : Converter) (l w w1 : List ℕ) (n i : ℕ) (h : 0 < a .depth) (e : n ≡ getD l (a .depth - 1) 0)
+module _ (a : Converter) (w w1 : List ℕ) (n i : ℕ) (h : 0 < a .depth) (e : n ≡ getD (a .lists) (a .depth - 1) 0)
     (f : out-of i w1 ≡ reverseAux (replicate (2 * (a .depth - 1)) 32) (out-of (a .len) w))
   where
-    last-is : lists-of a l ≡ n ∷ upto (a .depth - 1) l
-    last-is = upto-last (a .depth) l h ∙ ap (λ (x : ℕ). x ∷ upto (a .depth - 1) l) (sym e)
+    last-is : lists-of a ≡ n ∷ upto (a .depth - 1) (a .lists)
+    last-is = upto-last (a .depth) (a .lists) h ∙ ap (λ (x : ℕ). x ∷ upto (a .depth - 1) (a .lists)) (sym e)
 
     pub item-bullets : (m : ℕ) (w2 : List ℕ) → n ≡ 0 → out-of m w2 ≡ reverseAux (45 ∷ 32 ∷ []) (out-of i w1)
-        → with-out (out-of m w2) (a .space) (state-of a l w) ≡ item (lists-of a l) (state-of a l w)
+        → with-out (out-of m w2) (a .space) (state-of a w) ≡ item (lists-of a) (state-of a w)
     unfolding state-of
     item-bullets m w2 z g =
-        ap (λ (o : List ℕ). with-out o (a .space) (state-of a l w)) (g ∙ ap (reverseAux (45 ∷ 32 ∷ [])) f)
-        ∙ item-bullet (lists-of a l) (upto (a .depth - 1) l) n (2 * (a .depth - 1)) (state-of a l w) last-is z (twice (a .depth) l)
+        ap (λ (o : List ℕ). with-out o (a .space) (state-of a w)) (g ∙ ap (reverseAux (45 ∷ 32 ∷ [])) f)
+        ∙ item-bullet (lists-of a) (upto (a .depth - 1) (a .lists)) n (2 * (a .depth - 1)) (state-of a w) last-is z (twice (a .depth) (a .lists))
 
-    pub item-numbers : (j m : ℕ) (w2 w3 : List ℕ) → (n ≡ 0 → ⊥) → a .depth ≤ length l → out-of j w2 ≡ reverseAux (decimal n) (out-of i w1)
+    pub item-numbers : (j m : ℕ) (w2 w3 : List ℕ) → (n ≡ 0 → ⊥) → a .depth ≤ length (a .lists) → out-of j w2 ≡ reverseAux (decimal n) (out-of i w1)
         → out-of m w3 ≡ reverseAux (46 ∷ 32 ∷ []) (out-of j w2)
-        → with-lists (upto (a .depth) (set l (a .depth - 1) (n + 1))) (with-out (out-of m w3) (a .space) (state-of a l w)) ≡ item (lists-of a l) (state-of a l w)
+        → with-lists (upto (a .depth) (set (a .lists) (a .depth - 1) (n + 1))) (with-out (out-of m w3) (a .space) (state-of a w)) ≡ item (lists-of a) (state-of a w)
     unfolding state-of
     item-numbers j m w2 w3 z k g q =
-        ap (λ (x : List ℕ). with-lists x (with-out (out-of m w3) (a .space) (state-of a l w))) (upto-top (a .depth) l (n + 1) h k ∙ ap (λ (x : List ℕ). (n + 1) ∷ tail x) last-is)
-        ∙ ap (λ (o : List ℕ). with-lists ((n + 1) ∷ upto (a .depth - 1) l) (with-out o (a .space) (state-of a l w))) (q ∙ ap (reverseAux (46 ∷ 32 ∷ [])) (g ∙ ap (reverseAux (decimal n)) f))
-        ∙ item-number (lists-of a l) (upto (a .depth - 1) l) n (2 * (a .depth - 1)) (state-of a l w) last-is z (twice (a .depth) l)
+        ap (λ (x : List ℕ). with-lists x (with-out (out-of m w3) (a .space) (state-of a w))) (upto-top (a .depth) (a .lists) (n + 1) h k ∙ ap (λ (x : List ℕ). (n + 1) ∷ tail x) last-is)
+        ∙ ap (λ (o : List ℕ). with-lists ((n + 1) ∷ upto (a .depth - 1) (a .lists)) (with-out o (a .space) (state-of a w))) (q ∙ ap (reverseAux (46 ∷ 32 ∷ [])) (g ∙ ap (reverseAux (decimal n)) f))
+        ∙ item-number (lists-of a) (upto (a .depth - 1) (a .lists)) n (2 * (a .depth - 1)) (state-of a w) last-is z (twice (a .depth) (a .lists))
 
 -- a new line leaves the lists as they are
-pub newline-same : (a r : Converter) (l w w' : List ℕ) → state-of r l w' ≡ newline (state-of a l w) → lists-of r l ≡ lists-of a l
-newline-same a r l w w' e = lists-is r l w' _ e ∙ newline-lists (state-of a l w) ∙ sym (lists-is a l w _ refl)
+pub newline-same : (a r : Converter) (w w' : List ℕ) → state-of r w' ≡ newline (state-of a w) → lists-of r ≡ lists-of a
+newline-same a r w w' e = lists-is r w' _ e ∙ newline-lists (state-of a w) ∙ sym (lists-is a w _ refl)
 
-pub item-tag : (a r : Converter) (l w w' : List ℕ) → state-of r l w' ≡ newline (state-of a l w)
-    → item (lists-of r l) (state-of r l w') ≡ tag (step-means Item) false (state-of a l w)
+pub item-tag : (a r : Converter) (w w' : List ℕ) → state-of r w' ≡ newline (state-of a w)
+    → item (lists-of r) (state-of r w') ≡ tag (step-means Item) false (state-of a w)
 unfolding tag
-item-tag a r l w w' e = ap (λ (x : List ℕ). item x (state-of r l w')) (newline-same a r l w w' e ∙ lists-is a l w _ refl) ∙ ap (item (state-of a l w .lists)) e
+item-tag a r w w' e = ap (λ (x : List ℕ). item x (state-of r w')) (newline-same a r w w' e ∙ lists-is a w _ refl) ∙ ap (item (state-of a w .lists)) e
 
 -- ---- a pending space, written
 pub spaced-with : (s : State) (o : List ℕ) (sp : Bool) → spaced (with-out o sp s) ≡ with-out (with-space sp o) false s
@@ -294,10 +300,10 @@ unfolding spaced
 spaced-with s o true = refl
 spaced-with s o false = refl
 
-pub spaced-state : (a : Converter) (n : ℕ) (l w w' : List ℕ) → out-of n w' ≡ with-space (a .space) (out-of (a .len) w)
-    → with-out (out-of n w') false (state-of a l w) ≡ spaced (state-of a l w)
+pub spaced-state : (a : Converter) (n : ℕ) (w w' : List ℕ) → out-of n w' ≡ with-space (a .space) (out-of (a .len) w)
+    → with-out (out-of n w') false (state-of a w) ≡ spaced (state-of a w)
 unfolding state-of
-spaced-state a n l w w' e = ap (λ (o : List ℕ). with-out o false (state-of a l w)) e ∙ sym (spaced-with (state-of a l w) (out-of (a .len) w) (a .space))
+spaced-state a n w w' e = ap (λ (o : List ℕ). with-out o false (state-of a w)) e ∙ sym (spaced-with (state-of a w) (out-of (a .len) w) (a .space))
 
 pub out-len : (r : ℕ) (w o : List ℕ) → out-of r w ≡ o → r ≡ size o
 out-len r w o e = sym (size-out r w) ∙ ap size e

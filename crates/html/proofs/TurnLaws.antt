@@ -24,7 +24,7 @@ use Rattle.text.proofs.FindLaws.{until-since, chars-until, chars-since, since-d
 use Rattle.text.proofs.TrimLaws.{chars-trim}
 use Rattle.html.specs.State.{State}
 use Rattle.html.specs.Page.{inside, words, Turn, read, refused, tag-read, comment, a-tag, markup, turn, on-turn, loop}
-use Rattle.html.specs.Struct.{state-of, tagged, left}
+use Rattle.html.specs.Struct.{state-of, lists-of, tagged, left}
 use Rattle.html.specs.declared.Tagged.{Tagged}
 use Rattle.html.specs.declared.Converter.{Converter}
 use Rattle.html.proofs.GrowLaws.{len-of}
@@ -215,11 +215,11 @@ module _ (h : List ℕ) (j : ℕ) (d : State) (t : Bool) (e : t ≡ starts "<!--
         sym (markup-tag mark d (starts-is ∙ n) (omega (arith, ap length since-end)) ∙ ap (λ (x : List ℕ). tag-left x (inside (trim (drop 1 (until 62 mark))) d)) (ap (drop 1) since-end)
         ∙ ap (tag-left (chars (drop (end + 1) h))) (sym (i ∙ ap (λ (x : List ℕ). inside x d) p)))
 
-pub turned-tag : (t : Tagged) (m w l : List ℕ) → (if t .ok then some (l, state-of (t .state) m w) else none) ≡ tag-left l (tagged t m w)
+pub turned-tag : (t : Tagged) (w l : List ℕ) → (if t .ok then some (l, state-of (t .state) w) else none) ≡ tag-left l (tagged t w)
 unfolding tagged
-turned-tag t m w l = go (t .ok)
+turned-tag t w l = go (t .ok)
   where
-    go : (b : Bool) → (if b then some (l, state-of (t .state) m w) else none) ≡ tag-left l (if b then some (state-of (t .state) m w) else none)
+    go : (b : Bool) → (if b then some (l, state-of (t .state) w) else none) ≡ tag-left l (if b then some (state-of (t .state) w) else none)
     go true = refl
     go false = refl
 
@@ -304,12 +304,14 @@ mark-room s j t e y = starts-room (60 ∷ 33 ∷ 45 ∷ 45 ∷ []) s j (omega ar
 -- after the text of a turn the tag has room
 pub record Room (a r : Converter) (n : ℕ) : Type 0 where
   pub len : r .len ≤ a .len + 1 + 2 * n
+  pub lists : lists-of r ≡ lists-of a
   pub depth : r .depth ≡ a .depth
 
-pub words-room : (a r : Converter) (w w' bs : List ℕ) → ((l : List ℕ) → state-of r l w' ≡ words (chars bs) (state-of a l w)) → Room a r (length bs)
+pub words-room : (a r : Converter) (w w' bs : List ℕ) → state-of r w' ≡ words (chars bs) (state-of a w) → Room a r (length bs)
 words-room a r w w' bs e =
-    let k = lists-is r [] w' _ (e []) ∙ words-lists (chars bs) (state-of a [] w) ∙ sym (lists-is a [] w _ refl) in
+    let k = lists-is r w' _ e ∙ words-lists (chars bs) (state-of a w) ∙ sym (lists-is a w _ refl) in
     record {
-      len = omega (arith, len-of r [] w' _ (e []), words-size (chars bs) (state-of a [] w), len-of a [] w _ refl, size-chars bs);
-      depth = like a r [] k;
+      len = omega (arith, len-of r w' _ e, words-size (chars bs) (state-of a w), len-of a w _ refl, size-chars bs);
+      lists = k;
+      depth = like a r k;
     }

@@ -2,6 +2,7 @@
 -- Assumes nothing.
 use Prim.Native.Nat.{ℕ, _+_, _-_, _*_}
 use Prim.Native.String.{String}
+use mathlib.Core.Bool.{true, false}
 use mathlib.Core.List.{List, [], _∷_, map}
 use lib.Dec.{leb}
 use lib.ListN.{length}
@@ -12,7 +13,7 @@ use Rattle.html.specs.State as state
 use Rattle.html.specs.declared.Skip.{Skip}
 use Rattle.html.specs.declared.Skip.the-variants.{Nothing, Script, Style}
 use Rattle.html.specs.declared.Tag.{Tag}
-use Rattle.html.specs.declared.Tag.the-variants.{Ul, Ol, Skipped, Writes}
+use Rattle.html.specs.declared.Tag.the-variants.{Listing, Skipped, Writes}
 use Rattle.html.specs.declared.Step.the-variants.{Heading, Block, Pre, Break, Item, Row, Cell, Strong, Emphasis, Code, Other}
 
 -- one byte of a name, and 0 for a byte that ends it
@@ -41,8 +42,8 @@ code-of (marked m) = Writes (if same (str "**") (str m) then Strong else Emphasi
 code-of para = Writes Block
 code-of pre = Writes Pre
 code-of br = Writes Break
-code-of ul = Ul
-code-of ol = Ol
+code-of ul = Listing false
+code-of ol = Listing true
 code-of li = Writes Item
 code-of tr = Writes Row
 code-of cell = Writes Cell
@@ -65,7 +66,6 @@ skip-no Script = 1
 skip-no Style = 2
 
 abbrev pub tag-skip : Tag → Skip
-tag-skip Ul = Nothing
-tag-skip Ol = Nothing
+tag-skip (Listing ordered) = Nothing
 tag-skip (Skipped k) = k
 tag-skip (Writes t) = Nothing

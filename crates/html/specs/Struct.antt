@@ -18,7 +18,7 @@ use Rattle.html.specs.declared.Converter.{Converter}
 use Rattle.html.specs.declared.Tagged.{Tagged}
 use Rattle.html.specs.declared.Turned.{Turned}
 use Rattle.html.specs.declared.Tag.{Tag}
-use Rattle.html.specs.declared.Tag.the-variants.{Ul, Ol, Skipped, Writes}
+use Rattle.html.specs.declared.Tag.the-variants.{Listing, Skipped, Writes}
 use Rattle.html.specs.declared.Step.{Step}
 use Rattle.html.specs.declared.Step.the-variants.{Heading, Block, Pre, Break, Item, Row, Cell, Strong, Emphasis, Code, Other}
 
@@ -36,8 +36,8 @@ abbrev pub upto : ℕ → List ℕ → List ℕ
 upto zero l = []
 upto (suc n) l = getD l n 0 ∷ upto n l
 
-abbrev pub lists-of : Converter → List ℕ → List ℕ
-lists-of c l = upto (c .depth) l
+abbrev pub lists-of : Converter → List ℕ
+lists-of c = upto (c .depth) (c .lists)
 
 -- the number of the innermost list's next item: 0 for `ul`, and where no list is open
 unfoldable pub number : List ℕ → ℕ
@@ -49,9 +49,9 @@ skip-name Nothing = none
 skip-name Script = some (str "script")
 skip-name Style = some (str "style")
 
--- the state that a struct, the lent array of list numbers and the lent output hold
-unfoldable pub state-of : Converter → List ℕ → List ℕ → State
-state-of c l w = record { out = out-of (c .len) w; lists = lists-of c l; pre = c .pre; skip = skip-name (c .skip); space = c .space }
+-- the state that a struct and the lent output hold
+unfoldable pub state-of : Converter → List ℕ → State
+state-of c w = record { out = out-of (c .len) w; lists = lists-of c; pre = c .pre; skip = skip-name (c .skip); space = c .space }
 
 -- no pending space, and no spaces at the output's end
 unfoldable pub unspaced : State → State
@@ -91,19 +91,18 @@ step-means Code = code
 step-means Other = other
 
 abbrev pub tag-means : Tag → state.Tag
-tag-means Ul = ul
-tag-means Ol = ol
+tag-means (Listing ordered) = if ordered then ol else ul
 tag-means (Skipped k) = other
 tag-means (Writes t) = step-means t
 
 -- what a tag step answers: none is the refusal
-unfoldable pub tagged : Tagged → List ℕ → List ℕ → Option State
-tagged r l w = if r .ok then some (state-of (r .state) l w) else none
+unfoldable pub tagged : Tagged → List ℕ → Option State
+tagged r w = if r .ok then some (state-of (r .state) w) else none
 
 -- what a turn leaves: the characters that are left, and the state; none is the refusal
 abbrev pub left : List ℕ → Turn → Option (List ℕ × State)
 left s refused = none
 left s (read n d) = some (drop n s, d)
 
-unfoldable pub turned : Turned → List ℕ → List ℕ → List ℕ → Option (List ℕ × State)
-turned r l w html = if r .ok then some (chars (drop (r .next) html), state-of (r .state) l w) else none
+unfoldable pub turned : Turned → List ℕ → List ℕ → Option (List ℕ × State)
+turned r w html = if r .ok then some (chars (drop (r .next) html), state-of (r .state) w) else none

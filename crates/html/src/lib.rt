@@ -36,11 +36,12 @@ pub enum Skip {
     Style,
 }
 
-// The state: how many bytes of the lent output are written, how many lists are open, and three flags. The lists' numbers (0 for `ul`,
-// for `ol` one more than the items begun) are an array that is lent beside the state, so that no step copies it.
+// The state: how many bytes of the lent output are written, how many lists are open, their numbers (0 for `ul`, for `ol` one more than the
+// items begun; the output is full before one of them has 2 ^ 16), and three flags.
 pub struct Converter {
     pub len: usize,
     pub depth: usize,
+    pub lists: [u16; 64],
     pub pre: bool,
     pub skip: Skip,
     pub space: bool,
@@ -61,10 +62,9 @@ pub enum Step {
     Other,
 }
 
-// What a tag's name says: a list, a tag whose text is skipped, or one that only writes.
+// What a tag's name says: a list (ordered or not), a tag whose text is skipped, or one that only writes.
 pub enum Tag {
-    Ul,
-    Ol,
+    Listing(bool),
     Skipped(Skip),
     Writes(Step),
 }
@@ -96,11 +96,12 @@ impl Converter {
     pub const MAX_HTML: usize = 1_048_576;
 
     pub fn new() -> Self
-        ensures { λ r. ⌜ ((l w : List ℕ) → state-of r l w ≡ new) ⌝ }
+        ensures { λ r. ⌜ ((w : List ℕ) → state-of r w ≡ new) ⌝ }
     {
         Converter {
             len: 0,
             depth: 0,
+            lists: [0; Converter::MAX_LISTS],
             pre: false,
             skip: Skip::Nothing,
             space: false,
@@ -127,8 +128,7 @@ pub fn html_to_markdown(page: &[u8], work: &mut [u8], result: &mut [u8]) -> Answ
     if n == 0 {
         return Answer::Length(0);
     }
-    let mut lists = [0; Converter::MAX_LISTS];
-    let t = convert(&mut lists, work, &page[..n]);
+    let t = convert(work, &page[..n]);
     if !t.ok {
         return Answer::TooManyLists;
     }

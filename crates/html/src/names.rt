@@ -58,8 +58,8 @@ pub(crate) fn tag_of(s: &[u8]) -> Tag
         4_399 => Tag::Writes(Step::Block), // hr
         380_586 => Tag::Writes(Step::Pre), // pre
         3_943 => Tag::Writes(Step::Break), // br
-        5_381 => Tag::Ul, // ul
-        4_925 => Tag::Ol, // ol
+        5_381 => Tag::Listing(false), // ul
+        4_925 => Tag::Listing(true), // ol
         4_694 => Tag::Writes(Step::Item), // li
         5_311 => Tag::Writes(Step::Row), // tr
         5_297 => Tag::Writes(Step::Cell), // td
@@ -90,8 +90,7 @@ pub(crate) fn tag_skip(tag: Tag) -> Skip
 {
     match tag {
         Tag::Skipped(skip) => skip,
-        Tag::Ul => Skip::Nothing,
-        Tag::Ol => Skip::Nothing,
+        Tag::Listing(_) => Skip::Nothing,
         Tag::Writes(_) => Skip::Nothing,
     }
 }

@@ -7,7 +7,8 @@ ghost use Rattle.text.specs.Words.{is, starts, drop-while};
 ghost use Rattle.text.specs.Utf8.{IsScalar, utf8, code-at};
 ghost use Rattle.text.specs.Decimal.{decimal};
 ghost use Rattle.text.specs.Chars.{Ascii};
-ghost use Rattle.html.specs.State.{line-start, ends-with-digit};
+ghost use Rattle.html.specs.State.{State, with-out, line-start, block, newline, ends-with-digit};
+ghost use mathlib.Core.Bool.{false};
 ghost use Rattle.html.specs.Pen.{AboveAscii};
 ghost use Rattle.html.specs.Struct.{out-of, with-space};
 
@@ -156,4 +157,34 @@ pub(crate) fn push_number(out: &mut [u8], n: usize, number: usize) -> usize
     }
     let m = push_number(out, n, number / 10);
     push(out, m, b'0' + (number % 10) as u8)
+}
+
+// A blank line at the end: what `block` does to the output.
+pub(crate) fn blocked(out: &mut [u8], len: usize) -> usize
+    requires { ⌜ len + 2 ≤ length (now out) ⌝ }
+    ensures { λ r. ⌜ ((s : State) → with-out (out-of r (now (out .exit))) false s ≡ block (with-out (out-of len (now (out .entry))) false s)) ⌝ }
+{
+    let n = unspaced(out, len);
+    if n == 0 {
+        return n;
+    }
+    if ends_blank(out, n) {
+        return n;
+    }
+    if line_start(out, n) {
+        return push(out, n, b'\n');
+    }
+    push_all(out, n, b"\n\n")
+}
+
+// A new line at the end: what `newline` does to the output.
+pub(crate) fn line_ended(out: &mut [u8], len: usize) -> usize
+    requires { ⌜ len + 1 ≤ length (now out) ⌝ }
+    ensures { λ r. ⌜ ((s : State) → with-out (out-of r (now (out .exit))) false s ≡ newline (with-out (out-of len (now (out .entry))) false s)) ⌝ }
+{
+    let n = unspaced(out, len);
+    if line_start(out, n) {
+        return n;
+    }
+    push(out, n, b'\n')
 }

@@ -21,11 +21,13 @@ ghost use Rattle.html.specs.Struct.{state-of, lists-of, number, skip-nam
 impl Converter {
     // The state with another tag skipped.
     fn skipping(self, skip: Skip) -> Self
-        ensures { λ r. ⌜ ((l w : List ℕ) → state-of r l w ≡ with-skip (skip-name skip) (state-of self l w)) ⌝ }
+        ensures { λ r. ⌜ ((w : List ℕ) → state-of r w ≡ with-skip (skip-name skip) (state-of self w)) ⌝ }
     {
+        let lists = self.lists;
         Converter {
             len: self.len,
             depth: self.depth,
+            lists,
             pre: self.pre,
             skip: skip,
             space: self.space,
@@ -33,11 +35,11 @@ impl Converter {
     }
 
     // A tag by its name, outside and inside `script` and `style`.
-    fn element(mut self, lists: &mut [usize], out: &mut [u8], name: &[u8], closing: bool) -> Tagged
-        requires { ⌜ (self .depth ≤ 64) × (64 ≤ length (now lists)) ⌝ }
+    fn element(mut self, out: &mut [u8], name: &[u8], closing: bool) -> Tagged
+        requires { ⌜ self .depth ≤ 64 ⌝ }
         requires { ⌜ self .len + 149 ≤ length (now out) ⌝ }
-        requires { ⌜ number (lists-of self (now lists)) + 1 < 2 ^ 64 ⌝ }
-        ensures { λ r. ⌜ tagged r (now (lists .exit)) (now (out .exit)) ≡ element closing (name-of (now (name .entry))) (state-of self (now (lists .entry)) (now (out .entry))) ⌝ }
+        requires { ⌜ number (lists-of self) + 1 < 2 ^ 16 ⌝ }
+        ensures { λ r. ⌜ tagged r (now (out .exit)) ≡ element closing (name-of (now (name .entry))) (state-of self (now (out .entry))) ⌝ }
     {
         let tag = tag_of(name);
         let named = tag_skip(tag);
@@ -58,24 +60,24 @@ impl Converter {
                 state: self,
             };
         }
-        self.tag(lists, out, tag, closing)
+        self.tag(out, tag, closing)
     }
 
     // What stands between `<` and `>`, trimmed.
-    fn inside(self, lists: &mut [usize], out: &mut [u8], inner: &[u8]) -> Tagged
-        requires { ⌜ (self .depth ≤ 64) × (64 ≤ length (now lists)) ⌝ }
+    fn inside(self, out: &mut [u8], inner: &[u8]) -> Tagged
+        requires { ⌜ self .depth ≤ 64 ⌝ }
         requires { ⌜ self .len + 149 ≤ length (now out) ⌝ }
-        requires { ⌜ number (lists-of self (now lists)) + 1 < 2 ^ 64 ⌝ }
-        ensures { λ r. ⌜ tagged r (now (lists .exit)) (now (out .exit)) ≡ inside (chars (now (inner .entry))) (state-of self (now (lists .entry)) (now (out .entry))) ⌝ }
+        requires { ⌜ number (lists-of self) + 1 < 2 ^ 16 ⌝ }
+        ensures { λ r. ⌜ tagged r (now (out .exit)) ≡ inside (chars (now (inner .entry))) (state-of self (now (out .entry))) ⌝ }
     {
         let closing = text::starts_with(inner, 0, b"/");
-        self.element(lists, out, text::past(inner, closing as usize), closing)
+        self.element(out, text::past(inner, closing as usize), closing)
     }
 
     // Text, unless it is skipped.
     fn words(self, out: &mut [u8], raw: &[u8]) -> Self
         requires { ⌜ (self .len + 2 + 2 * length (now raw) ≤ length (now out)) × Scalars (chars (now raw)) ⌝ }
-        ensures { λ r. ⌜ ((l : List ℕ) → state-of r l (now (out .exit)) ≡ words (chars (now (raw .entry))) (state-of self l (now (out .entry)))) ⌝ }
+        ensures { λ r. ⌜ state-of r (now (out .exit)) ≡ words (chars (now (raw .entry))) (state-of self (now (out .entry))) ⌝ }
     {
         let skip = self.skip;
         if skip_no(skip) == 0 {
@@ -85,12 +87,12 @@ impl Converter {
     }
 
     // What starts with the `<` at lt: a comment or a tag.
-    fn markup(self, lists: &mut [usize], out: &mut [u8], html: &[u8], lt: usize) -> Turned
+    fn markup(self, out: &mut [u8], html: &[u8], lt: usize) -> Turned
         requires { ⌜ (lt < length (now html)) × (getD (now html) lt 0 ≡ 60) ⌝ }
-        requires { ⌜ (self .depth ≤ 64) × (64 ≤ length (now lists)) ⌝ }
+        requires { ⌜ self .depth ≤ 64 ⌝ }
         requires { ⌜ self .len + 149 ≤ length (now out) ⌝ }
-        requires { ⌜ number (lists-of self (now lists)) + 1 < 2 ^ 64 ⌝ }
-        ensures { λ r. ⌜ turned r (now (lists .exit)) (now (out .exit)) (now (html .entry)) ≡ left (chars (drop lt (now (html .entry)))) (markup 0 (chars (drop lt (now (html .entry)))) (state-of self (now (lists .entry)) (now (out .entry)))) ⌝ }
+        requires { ⌜ number (lists-of self) + 1 < 2 ^ 16 ⌝ }
+        ensures { λ r. ⌜ turned r (now (out .exit)) (now (html .entry)) ≡ left (chars (drop lt (now (html .entry)))) (markup 0 (chars (drop lt (now (html .entry)))) (state-of self (now (out .entry)))) ⌝ }
         ensures { λ r. ⌜ (lt < r .next) × (r .next ≤ length (now (html .entry))) ⌝ }
     {
         if text::starts_with(html, lt, b"<!--") {
@@ -109,7 +111,7 @@ impl Converter {
             };
         };
         let from = lt + 1;
-        let t = self.inside(lists, out, text::trim(&html[from..gt]));
+        let t = self.inside(out, text::trim(&html[from..gt]));
         let s = t.state;
         Turned {
             ok: t.ok,
@@ -119,12 +121,12 @@ impl Converter {
     }
 
     // One turn: the text up to a `<`, and the comment or the tag that starts there.
-    fn turn(self, lists: &mut [usize], out: &mut [u8], html: &[u8], at: usize) -> Turned
+    fn turn(self, out: &mut [u8], html: &[u8], at: usize) -> Turned
         requires { ⌜ (at < length (now html)) × Scalars (chars (drop at (now html))) ⌝ }
-        requires { ⌜ (self .depth ≤ 64) × (64 ≤ length (now lists)) ⌝ }
+        requires { ⌜ self .depth ≤ 64 ⌝ }
         requires { ⌜ self .len + 151 + 2 * length (now html) ≤ length (now out) ⌝ }
-        requires { ⌜ number (lists-of self (now lists)) + 1 < 2 ^ 64 ⌝ }
-        ensures { λ r. ⌜ turned r (now (lists .exit)) (now (out .exit)) (now (html .entry)) ≡ left (chars (drop at (now (html .entry)))) (turn (chars (drop at (now (html .entry)))) (state-of self (now (lists .entry)) (now (out .entry)))) ⌝ }
+        requires { ⌜ number (lists-of self) + 1 < 2 ^ 16 ⌝ }
+        ensures { λ r. ⌜ turned r (now (out .exit)) (now (html .entry)) ≡ left (chars (drop at (now (html .entry)))) (turn (chars (drop at (now (html .entry)))) (state-of self (now (out .entry)))) ⌝ }
         ensures { λ r. ⌜ (at < r .next) × (r .next ≤ length (now (html .entry))) ⌝ }
     {
         let lt = text_end(html, at);
@@ -136,7 +138,7 @@ impl Converter {
                 state: c,
             };
         }
-        c.markup(lists, out, html, lt)
+        c.markup(out, html, lt)
     }
 }
 
@@ -152,10 +154,9 @@ fn text_end(html: &[u8], i: usize) -> usize
 }
 
 // All turns, until the page or the room for notes is used up.
-pub(crate) fn convert(lists: &mut [usize], out: &mut [u8], html: &[u8]) -> Tagged
+pub(crate) fn convert(out: &mut [u8], html: &[u8]) -> Tagged
     requires { ⌜ (2 * length (now html) + 16384 ≤ length (now out)) × Scalars (chars (now html)) ⌝ }
-    requires { ⌜ 64 ≤ length (now lists) ⌝ }
-    ensures { λ r. ⌜ tagged r (now (lists .exit)) (now (out .exit)) ≡ loop 0 (chars (now (html .entry))) new ⌝ }
+    ensures { λ r. ⌜ tagged r (now (out .exit)) ≡ loop 0 (chars (now (html .entry))) new ⌝ }
     ensures { λ r. ⌜ (r .ok ≡ true → r .state .len ≤ length (now (out .exit))) ⌝ }
 {
     let mut c = Converter::new();
@@ -164,7 +165,7 @@ pub(crate) fn convert(lists: &mut [usize], out: &mut [u8], html: &[u8]) -> Tagge
         if Converter::MAX_OUT <= c.len {
             return Tagged { ok: true, state: c };
         }
-        let t = c.turn(lists, out, html, at);
+        let t = c.turn(out, html, at);
         let s = t.state;
         if !t.ok {
             return Tagged {

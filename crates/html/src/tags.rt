@@ -3,14 +3,13 @@ use crate::Converter;
 use crate::Step;
 use crate::Tag;
 use crate::Tagged;
-use crate::output::ends_blank;
-use crate::output::line_start;
+use crate::output::blocked;
+use crate::output::line_ended;
 use crate::output::push;
 use crate::output::push_all;
 use crate::output::push_number;
 use crate::output::push_times;
 use crate::output::spaced;
-use crate::output::unspaced;
 ghost use mathlib.Core.Path.{_≡_};
 ghost use Prim.Native.Nat.{ℕ, _+_, _^_, _≤_, _<_, min};
 ghost use mathlib.Core.List.{List, _∷_, tail};
@@ -31,45 +30,27 @@ impl Converter {
     // A blank line before the next block.
     pub(crate) fn block(mut self, out: &mut [u8]) -> Self
         requires { ⌜ self .len + 2 ≤ length (now out) ⌝ }
-        ensures { λ r. ⌜ ((l : List ℕ) → state-of r l (now (out .exit)) ≡ block (state-of self l (now (out .entry)))) ⌝ }
+        ensures { λ r. ⌜ state-of r (now (out .exit)) ≡ block (state-of self (now (out .entry))) ⌝ }
     {
-        let n = unspaced(out, self.len);
+        let n = blocked(out, self.len);
         self.len = n;
         self.space = false;
-        if n == 0 {
-            return self;
-        }
-        if ends_blank(out, n) {
-            return self;
-        }
-        if line_start(out, n) {
-            let m = push(out, n, b'\n');
-            self.len = m;
-            return self;
-        }
-        let m = push_all(out, n, b"\n\n");
-        self.len = m;
         self
     }
 
     pub(crate) fn newline(mut self, out: &mut [u8]) -> Self
         requires { ⌜ self .len + 1 ≤ length (now out) ⌝ }
-        ensures { λ r. ⌜ ((l : List ℕ) → state-of r l (now (out .exit)) ≡ newline (state-of self l (now (out .entry)))) ⌝ }
+        ensures { λ r. ⌜ state-of r (now (out .exit)) ≡ newline (state-of self (now (out .entry))) ⌝ }
     {
-        let n = unspaced(out, self.len);
+        let n = line_ended(out, self.len);
         self.len = n;
         self.space = false;
-        if line_start(out, n) {
-            return self;
-        }
-        let m = push(out, n, b'\n');
-        self.len = m;
         self
     }
 
     pub(crate) fn marks(mut self, out: &mut [u8], mark: &[u8], closing: bool) -> Self
         requires { ⌜ (self .len + 1 + length (now mark) ≤ length (now out)) × Ascii (now mark) ⌝ }
-        ensures { λ r. ⌜ ((l : List ℕ) → state-of r l (now (out .exit)) ≡ marks (now (mark .entry)) closing (state-of self l (now (out .entry)))) ⌝ }
+        ensures { λ r. ⌜ state-of r (now (out .exit)) ≡ marks (now (mark .entry)) closing (state-of self (now (out .entry))) ⌝ }
     {
         if closing {
             let m = push_all(out, self.len, mark);
@@ -83,18 +64,18 @@ impl Converter {
         self
     }
 
-    fn opened(mut self, lists: &mut [usize], first: usize) -> Self
-        requires { ⌜ (self .depth < 64) × (64 ≤ length (now lists)) ⌝ }
-        ensures { λ r. ⌜ ((w : List ℕ) → state-of r (now (lists .exit)) w ≡ with-lists (first ∷ lists-of self (now (lists .entry))) (state-of self (now (lists .entry)) w)) ⌝ }
+    fn opened(mut self, first: u16) -> Self
+        requires { ⌜ self .depth < 64 ⌝ }
+        ensures { λ r. ⌜ ((w : List ℕ) → state-of r w ≡ with-lists (first ∷ lists-of self) (state-of self w)) ⌝ }
     {
         let d = self.depth;
-        lists[d] = first;
+        self.lists[d] = first;
         self.depth = d + 1;
         self
     }
 
     fn closed(mut self) -> Self
-        ensures { λ r. ⌜ ((l w : List ℕ) → state-of r l w ≡ with-lists (tail (lists-of self l)) (state-of self l w)) ⌝ }
+        ensures { λ r. ⌜ ((w : List ℕ) → state-of r w ≡ with-lists (tail (lists-of self)) (state-of self w)) ⌝ }
     {
         let d = self.depth;
         if d == 0 {
@@ -105,11 +86,11 @@ impl Converter {
     }
 
     // An item's marker, after two spaces for each list around the innermost.
-    fn item(mut self, lists: &mut [usize], out: &mut [u8]) -> Self
-        requires { ⌜ (self .depth ≤ 64) × (64 ≤ length (now lists)) ⌝ }
+    fn item(mut self, out: &mut [u8]) -> Self
+        requires { ⌜ self .depth ≤ 64 ⌝ }
         requires { ⌜ self .len + 148 ≤ length (now out) ⌝ }
-        requires { ⌜ number (lists-of self (now lists)) + 1 < 2 ^ 64 ⌝ }
-        ensures { λ r. ⌜ state-of r (now (lists .exit)) (now (out .exit)) ≡ item (lists-of self (now (lists .entry))) (state-of self (now (lists .entry)) (now (out .entry))) ⌝ }
+        requires { ⌜ number (lists-of self) + 1 < 2 ^ 16 ⌝ }
+        ensures { λ r. ⌜ state-of r (now (out .exit)) ≡ item (lists-of self) (state-of self (now (out .entry))) ⌝ }
     {
         let d = self.depth;
         if d == 0 {
@@ -117,24 +98,24 @@ impl Converter {
             self.len = m;
             return self;
         }
-        let n = lists[d - 1];
+        let n = self.lists[d - 1];
         let indented = push_times(out, self.len, b' ', 2 * (d - 1));
         if n == 0 {
             let m = push_all(out, indented, b"- ");
             self.len = m;
             return self;
         }
-        let numbered = push_number(out, indented, n);
+        let numbered = push_number(out, indented, n as usize);
         let m = push_all(out, numbered, b". ");
         self.len = m;
-        lists[d - 1] = n + 1;
+        self.lists[d - 1] = n + 1;
         self
     }
 
     // A new line after a list opened or closed, a blank one where none is open.
     fn changed(mut self, out: &mut [u8]) -> Self
         requires { ⌜ self .len + 3 ≤ length (now out) ⌝ }
-        ensures { λ r. ⌜ ((l : List ℕ) → state-of r l (now (out .exit)) ≡ list-changed (lists-of self l) (state-of self l (now (out .entry)))) ⌝ }
+        ensures { λ r. ⌜ state-of r (now (out .exit)) ≡ list-changed (lists-of self) (state-of self (now (out .entry))) ⌝ }
     {
         let d = self.depth;
         self = self.newline(out);
@@ -145,10 +126,10 @@ impl Converter {
     }
 
     // `ul` and `ol`: first is 0 or 1.
-    fn list(mut self, lists: &mut [usize], out: &mut [u8], first: usize, closing: bool) -> Tagged
-        requires { ⌜ (self .depth ≤ 64) × (64 ≤ length (now lists)) ⌝ }
+    fn list(mut self, out: &mut [u8], first: u16, closing: bool) -> Tagged
+        requires { ⌜ self .depth ≤ 64 ⌝ }
         requires { ⌜ self .len + 3 ≤ length (now out) ⌝ }
-        ensures { λ r. ⌜ tagged r (now (lists .exit)) (now (out .exit)) ≡ list-tag first closing (state-of self (now (lists .entry)) (now (out .entry))) ⌝ }
+        ensures { λ r. ⌜ tagged r (now (out .exit)) ≡ list-tag first closing (state-of self (now (out .entry))) ⌝ }
     {
         if closing {
             self = self.closed();
@@ -164,7 +145,7 @@ impl Converter {
                 state: self,
             };
         }
-        self = self.opened(lists, first);
+        self = self.opened(first);
         self = self.changed(out);
         Tagged {
             ok: true,
@@ -174,7 +155,7 @@ impl Converter {
 
     fn heading(mut self, out: &mut [u8], level: usize, closing: bool) -> Self
         requires { ⌜ self .len + 6 ≤ length (now out) ⌝ }
-        ensures { λ r. ⌜ ((l : List ℕ) → state-of r l (now (out .exit)) ≡ tag (heading level) closing (state-of self l (now (out .entry)))) ⌝ }
+        ensures { λ r. ⌜ state-of r (now (out .exit)) ≡ tag (heading level) closing (state-of self (now (out .entry))) ⌝ }
     {
         self = self.block(out);
         if closing {
@@ -189,7 +170,7 @@ impl Converter {
     // Text that ends a pending space.
     fn ended(mut self, out: &mut [u8], bytes: &[u8]) -> Self
         requires { ⌜ (self .len + length (now bytes) ≤ length (now out)) × Ascii (now bytes) ⌝ }
-        ensures { λ r. ⌜ ((l : List ℕ) → state-of r l (now (out .exit)) ≡ ended (now (bytes .entry)) (state-of self l (now (out .entry)))) ⌝ }
+        ensures { λ r. ⌜ state-of r (now (out .exit)) ≡ ended (now (bytes .entry)) (state-of self (now (out .entry))) ⌝ }
     {
         let m = push_all(out, self.len, bytes);
         self.len = m;
@@ -199,7 +180,7 @@ impl Converter {
 
     fn pre_tag(mut self, out: &mut [u8], closing: bool) -> Self
         requires { ⌜ self .len + 2 ≤ length (now out) ⌝ }
-        ensures { λ r. ⌜ ((l : List ℕ) → state-of r l (now (out .exit)) ≡ tag pre closing (state-of self l (now (out .entry)))) ⌝ }
+        ensures { λ r. ⌜ state-of r (now (out .exit)) ≡ tag pre closing (state-of self (now (out .entry))) ⌝ }
     {
         self = self.block(out);
         self.pre = !closing;
@@ -208,7 +189,7 @@ impl Converter {
 
     fn line_break(self, out: &mut [u8], closing: bool) -> Self
         requires { ⌜ self .len + 1 ≤ length (now out) ⌝ }
-        ensures { λ r. ⌜ ((l : List ℕ) → state-of r l (now (out .exit)) ≡ tag br closing (state-of self l (now (out .entry)))) ⌝ }
+        ensures { λ r. ⌜ state-of r (now (out .exit)) ≡ tag br closing (state-of self (now (out .entry))) ⌝ }
     {
         if closing {
             return self;
@@ -216,22 +197,22 @@ impl Converter {
         self.ended(out, b"\n")
     }
 
-    fn list_item(mut self, lists: &mut [usize], out: &mut [u8], closing: bool) -> Self
-        requires { ⌜ (self .depth ≤ 64) × (64 ≤ length (now lists)) ⌝ }
+    fn list_item(mut self, out: &mut [u8], closing: bool) -> Self
+        requires { ⌜ self .depth ≤ 64 ⌝ }
         requires { ⌜ self .len + 149 ≤ length (now out) ⌝ }
-        requires { ⌜ number (lists-of self (now lists)) + 1 < 2 ^ 64 ⌝ }
-        ensures { λ r. ⌜ state-of r (now (lists .exit)) (now (out .exit)) ≡ tag li closing (state-of self (now (lists .entry)) (now (out .entry))) ⌝ }
+        requires { ⌜ number (lists-of self) + 1 < 2 ^ 16 ⌝ }
+        ensures { λ r. ⌜ state-of r (now (out .exit)) ≡ tag li closing (state-of self (now (out .entry))) ⌝ }
     {
         if closing {
             return self;
         }
         self = self.newline(out);
-        self.item(lists, out)
+        self.item(out)
     }
 
     fn row(self, out: &mut [u8], closing: bool) -> Self
         requires { ⌜ self .len + 1 ≤ length (now out) ⌝ }
-        ensures { λ r. ⌜ ((l : List ℕ) → state-of r l (now (out .exit)) ≡ tag tr closing (state-of self l (now (out .entry)))) ⌝ }
+        ensures { λ r. ⌜ state-of r (now (out .exit)) ≡ tag tr closing (state-of self (now (out .entry))) ⌝ }
     {
         if closing {
             return self.newline(out);
@@ -241,7 +222,7 @@ impl Converter {
 
     fn cell(self, out: &mut [u8], closing: bool) -> Self
         requires { ⌜ self .len + 3 ≤ length (now out) ⌝ }
-        ensures { λ r. ⌜ ((l : List ℕ) → state-of r l (now (out .exit)) ≡ tag cell closing (state-of self l (now (out .entry)))) ⌝ }
+        ensures { λ r. ⌜ state-of r (now (out .exit)) ≡ tag cell closing (state-of self (now (out .entry))) ⌝ }
     {
         if closing {
             return self.ended(out, b" | ");
@@ -251,7 +232,7 @@ impl Converter {
 
     fn code(self, out: &mut [u8], closing: bool) -> Self
         requires { ⌜ self .len + 2 ≤ length (now out) ⌝ }
-        ensures { λ r. ⌜ ((l : List ℕ) → state-of r l (now (out .exit)) ≡ tag code closing (state-of self l (now (out .entry)))) ⌝ }
+        ensures { λ r. ⌜ state-of r (now (out .exit)) ≡ tag code closing (state-of self (now (out .entry))) ⌝ }
     {
         if self.pre {
             return self;
@@ -260,18 +241,18 @@ impl Converter {
     }
 
     // A tag that only writes.
-    fn step(self, lists: &mut [usize], out: &mut [u8], step: Step, closing: bool) -> Self
-        requires { ⌜ (self .depth ≤ 64) × (64 ≤ length (now lists)) ⌝ }
+    fn step(self, out: &mut [u8], step: Step, closing: bool) -> Self
+        requires { ⌜ self .depth ≤ 64 ⌝ }
         requires { ⌜ self .len + 149 ≤ length (now out) ⌝ }
-        requires { ⌜ number (lists-of self (now lists)) + 1 < 2 ^ 64 ⌝ }
-        ensures { λ r. ⌜ state-of r (now (lists .exit)) (now (out .exit)) ≡ tag (step-means step) closing (state-of self (now (lists .entry)) (now (out .entry))) ⌝ }
+        requires { ⌜ number (lists-of self) + 1 < 2 ^ 16 ⌝ }
+        ensures { λ r. ⌜ state-of r (now (out .exit)) ≡ tag (step-means step) closing (state-of self (now (out .entry))) ⌝ }
     {
         match step {
             Step::Heading(level) => self.heading(out, level, closing),
             Step::Block => self.block(out),
             Step::Pre => self.pre_tag(out, closing),
             Step::Break => self.line_break(out, closing),
-            Step::Item => self.list_item(lists, out, closing),
+            Step::Item => self.list_item(out, closing),
             Step::Row => self.row(out, closing),
             Step::Cell => self.cell(out, closing),
             Step::Strong => self.marks(out, b"**", closing),
@@ -281,33 +262,23 @@ impl Converter {
         }
     }
 
-    // A tag's step. The numbers of the open lists are lent beside the state.
-    pub(crate) fn tag(
-        mut self,
-        lists: &mut [usize],
-        out: &mut [u8],
-        tag: Tag,
-        closing: bool,
-    ) -> Tagged
-        requires { ⌜ (self .depth ≤ 64) × (64 ≤ length (now lists)) ⌝ }
+    // A tag's step.
+    pub(crate) fn tag(mut self, out: &mut [u8], tag: Tag, closing: bool) -> Tagged
+        requires { ⌜ self .depth ≤ 64 ⌝ }
         requires { ⌜ self .len + 149 ≤ length (now out) ⌝ }
-        requires { ⌜ number (lists-of self (now lists)) + 1 < 2 ^ 64 ⌝ }
-        ensures { λ r. ⌜ tagged r (now (lists .exit)) (now (out .exit)) ≡ listed (tag-means tag) closing (state-of self (now (lists .entry)) (now (out .entry))) ⌝ }
+        requires { ⌜ number (lists-of self) + 1 < 2 ^ 16 ⌝ }
+        ensures { λ r. ⌜ tagged r (now (out .exit)) ≡ listed (tag-means tag) closing (state-of self (now (out .entry))) ⌝ }
     {
         match tag {
-            Tag::Ul => self.list(lists, out, 0, closing),
-            Tag::Ol => self.list(lists, out, 1, closing),
+            Tag::Listing(ordered) => self.list(out, ordered as u16, closing),
             Tag::Skipped(_) => Tagged {
                 ok: true,
                 state: self,
             },
-            Tag::Writes(step) => {
-                self = self.step(lists, out, step, closing);
-                Tagged {
-                    ok: true,
-                    state: self,
-                }
-            }
+            Tag::Writes(step) => Tagged {
+                ok: true,
+                state: self.step(out, step, closing),
+            },
         }
     }
 }

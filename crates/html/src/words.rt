@@ -283,7 +283,7 @@ fn ink(pen: Pen, out: &mut [u8], raw: &[u8], pre: bool) -> Pen
 impl Converter {
     pub(crate) fn text(mut self, out: &mut [u8], raw: &[u8]) -> Self
         requires { ⌜ (self .len + 2 + 2 * length (now raw) ≤ length (now out)) × Scalars (chars (now raw)) ⌝ }
-        ensures { λ r. ⌜ ((l : List ℕ) → state-of r l (now (out .exit)) ≡ text (chars (now (raw .entry))) (state-of self l (now (out .entry)))) ⌝ }
+        ensures { λ r. ⌜ state-of r (now (out .exit)) ≡ text (chars (now (raw .entry))) (state-of self (now (out .entry))) ⌝ }
     {
         let pen = Pen {
             len: self.len,

@@ -17,11 +17,11 @@ same-length c = search needs
 
 returns : tie.Need-returns
 unfolding tag ended
-returns c = λ l. rw (c .before .before .before .before .before .if1 .taken) (c .before .before .ended .ensures l)
+returns c = rw (c .before .before .before .before .before .if1 .taken) (c .before .before .ended .ensures)
 
 returns-2 : tie.Need-returns-2
 unfolding tag
-returns-2 c = λ l. rw (c .if1 .left)
+returns-2 c = rw (c .if1 .left)
 
 pub cell-spec : {M : Type 1} → statement M
 cell-spec = tie.close (tie.spec slice-aggregate-ended ended-requires same-length returns returns-2)

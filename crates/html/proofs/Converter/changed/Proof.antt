@@ -25,11 +25,14 @@ same-length c = search needs
 returns : tie.Need-returns
 unfolding state-of
 returns c =
-    let a = c .before .before .before .before .before .before .before .before .before .before .args in
-    λ l.
-    c .before .before .block .ensures l
-    ∙ ap block (c .before .before .before .before .before .before .before .newline .ensures l)
-    ∙ changed-none (lists-of (a .self) l) (state-of (a .self) l (now (a .out))) (none-of (a .self) l (c .before .before .before .before .if1 .taken))
+    let at-block = c .before .before in
+    let at-if1 = at-block .before .before in
+    let at-newline = at-if1 .before .before .before in
+    let at-start = at-newline .before .before .before in
+    let a = at-start .args in
+    at-block .block .ensures
+    ∙ ap block (at-newline .newline .ensures)
+    ∙ changed-none (lists-of (a .self)) (state-of (a .self) (now (a .out))) (none-of (a .self) (at-if1 .if1 .taken))
 
 same-length-2 : tie.Need-same-length-2
 same-length-2 c = search needs
@@ -38,9 +41,8 @@ returns-2 : tie.Need-returns-2
 unfolding state-of
 returns-2 c =
     let a = c .before .before .before .before .before .before .args in
-    λ l.
-    c .before .before .before .newline .ensures l
-    ∙ changed-some (lists-of (a .self) l) (state-of (a .self) l (now (a .out))) (some-of (a .self) l (c .if1 .left))
+    c .before .before .before .newline .ensures
+    ∙ changed-some (lists-of (a .self)) (state-of (a .self) (now (a .out))) (some-of (a .self) (c .if1 .left))
 
 pub changed-spec : {M : Type 1} → statement M
 changed-spec =

@@ -15,7 +15,7 @@ returns : tie.Need-returns
 unfolding state-of
 returns c =
     let a = c .before .args .self in
-    λ l w. ap (λ (x : List ℕ). with-lists x (state-of a l w)) (rw (c .if1 .taken) refl)
+    λ w. ap (λ (x : List ℕ). with-lists x (state-of a w)) (rw (c .if1 .taken) refl)
 
 sub-self : tie.Need-sub-self
 sub-self c = search needs
@@ -24,7 +24,7 @@ returns-2 : tie.Need-returns-2
 unfolding state-of
 returns-2 c =
     let a = c .before .args .self in
-    λ l w. ap (λ (x : List ℕ). with-lists x (state-of a l w)) (sym (ap tail (upto-last (a .depth) l (omega arith))))
+    λ w. ap (λ (x : List ℕ). with-lists x (state-of a w)) (sym (ap tail (upto-last (a .depth) (a .lists) (omega arith))))
 
 pub closed-spec : {M : Type 1} → statement M
 closed-spec = tie.close (tie.spec returns sub-self returns-2)

@@ -9,7 +9,7 @@ use Rattle.html.proofs.Converter.code.Tie as tie
 
 returns : tie.Need-returns
 unfolding state-of
-returns c = λ l. code-pre _ _ (c .if1 .taken)
+returns c = code-pre _ _ (c .if1 .taken)
 
 slice-aggregate-marks : tie.Need-slice-aggregate-marks
 slice-aggregate-marks c = search needs
@@ -22,7 +22,7 @@ same-length c = search needs
 
 returns-2 : tie.Need-returns-2
 unfolding state-of
-returns-2 c = λ l. c .before .before .marks .ensures l ∙ code-out _ _ (c .before .before .before .before .before .if1 .left)
+returns-2 c = c .before .before .marks .ensures ∙ code-out _ _ (c .before .before .before .before .before .if1 .left)
 
 pub code-spec : {M : Type 1} → statement M
 code-spec = tie.close (tie.spec returns slice-aggregate-marks marks-requires same-length returns-2)

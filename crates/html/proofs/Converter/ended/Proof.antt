@@ -21,7 +21,7 @@ returns : tie.Need-returns
 unfolding ended state-of
 returns c =
     let a = c .before .before .before .before .before .before .args in
-    λ l. ap (λ (o : List ℕ). with-out o false (state-of (a .self) l (now (a .out)))) (c .before .before .push-all .ensures)
+    ap (λ (o : List ℕ). with-out o false (state-of (a .self) (now (a .out)))) (c .before .before .push-all .ensures)
 
 pub ended-spec : {M : Type 1} → statement M
 ended-spec = tie.close (tie.spec push-all-requires same-length returns)

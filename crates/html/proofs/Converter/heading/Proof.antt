@@ -22,7 +22,7 @@ same-length c = search needs
 
 returns : tie.Need-returns
 unfolding tag
-returns c = λ l. rw (c .if1 .taken) (c .before .before .before .block .ensures l)
+returns c = rw (c .if1 .taken) (c .before .before .before .block .ensures)
 
 level-of-requires : tie.Need-level-of-requires
 level-of-requires c κs = search needs
@@ -34,9 +34,12 @@ push-times-requires c κs =
 
 push-requires : tie.Need-push-requires
 push-requires c κs =
-    let b = grown block 2 grow-block _ _ _ _ (c .before .before .before .before .before .before .before .before .before .block .ensures) in
-    let t = times-len _ _ (c .before .before .before .before .level-of .result) 35 _ _ (omega arith) (c .before .before .before .push-times .ensures) in
-    (omega (arith, c .before .before .before .before .level-of .ensures), omega arith)
+    let at-push-times = c .before .before .before in
+    let at-level-of = at-push-times .before in
+    let at-block = at-level-of .before .before .before .before .before in
+    let b = grown block 2 grow-block _ _ _ _ (at-block .block .ensures) in
+    let t = times-len _ _ (at-level-of .level-of .result) 35 _ _ (omega arith) (at-push-times .push-times .ensures) in
+    (omega (arith, at-level-of .level-of .ensures), omega arith)
 
 same-length-2 : tie.Need-same-length-2
 same-length-2 c = search needs
@@ -44,11 +47,16 @@ same-length-2 c = search needs
 returns-2 : tie.Need-returns-2
 unfolding tag state-of
 returns-2 c =
-    let a = c .before .before .before .before .before .before .before .before .before .before .before .before .before .before .before .args in
-    let k = c .before .before .before .before .before .before .before .level-of in
-    λ l.
-    let s = state-of (a .self) l (now (a .out)) in
-    rw (c .before .before .before .before .before .before .before .before .before .if1 .left) (heading-written (c .before .before .before .before .before .before .before .before .before .before .before .before .block .result) l _ _ _ (k .result) _ _ s (c .before .before .before .before .before .before .before .before .before .before .before .before .block .ensures l) (c .before .before .before .before .before .before .push-times .ensures) (c .before .before .push .ensures)
+    let at-push = c .before .before in
+    let at-push-times = at-push .before .before .before .before in
+    let at-level-of = at-push-times .before in
+    let at-if1 = at-level-of .before .before in
+    let at-block = at-if1 .before .before .before in
+    let at-start = at-block .before .before .before in
+    let a = at-start .args in
+    let k = at-level-of .level-of in
+    let s = state-of (a .self) (now (a .out)) in
+    rw (at-if1 .if1 .left) (heading-written (at-block .block .result) _ _ _ (k .result) _ _ s (at-block .block .ensures) (at-push-times .push-times .ensures) (at-push .push .ensures)
     ∙ ap (λ (n : ℕ). push-str (repeat n "#" ++ str " ") (block s)) (k .ensures))
 
 pub heading-spec : {M : Type 1} → statement M

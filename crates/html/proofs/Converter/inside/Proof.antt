@@ -29,17 +29,18 @@ element-requires c κs = search needs
 same-length : tie.Need-same-length
 same-length c = search needs
 
-same-length-2 : tie.Need-same-length-2
-same-length-2 c = search needs
-
 returns : tie.Need-returns
 returns c =
-    let a = c .before .before .before .before .before .before .before .before .before .before .before .before .before .args in
-    let t = c .before .before .before .before .before .before .before .before .starts-with in
-    let s = state-of (a .self) (now (a .lists)) (now (a .out)) in
-    c .before .before .before .before .element .ensures
-    ∙ ap (λ (l : List ℕ). element (t .result) (name-of l) s) (c .before .before .before .before .before .past .ensures)
+    let at-element = c .before .before in
+    let at-past = at-element .before in
+    let at-starts-with = at-past .before .before in
+    let at-start = at-starts-with .before .before .before .before in
+    let a = at-start .args in
+    let t = at-starts-with .starts-with in
+    let s = state-of (a .self) (now (a .out)) in
+    at-element .element .ensures
+    ∙ ap (λ (l : List ℕ). element (t .result) (name-of l) s) (at-past .past .ensures)
     ∙ inside-is (now (a .inner)) s (t .result) (t .ensures)
 
 pub inside-spec : {M : Type 1} → statement M
-inside-spec = tie.close (tie.spec slice-aggregate-starts-with starts-with-requires cast-past past-requires element-requires same-length same-length-2 returns)
+inside-spec = tie.close (tie.spec slice-aggregate-starts-with starts-with-requires cast-past past-requires element-requires same-length returns)

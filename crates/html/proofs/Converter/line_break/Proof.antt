@@ -8,7 +8,7 @@ use Rattle.html.proofs.Converter.line_break.Tie as tie
 
 returns : tie.Need-returns
 unfolding tag
-returns c = λ l. rw (c .if1 .taken)
+returns c = rw (c .if1 .taken)
 
 slice-aggregate-ended : tie.Need-slice-aggregate-ended
 slice-aggregate-ended c = search needs
@@ -21,7 +21,7 @@ same-length c = search needs
 
 returns-2 : tie.Need-returns-2
 unfolding tag ended
-returns-2 c = λ l. rw (c .before .before .before .before .before .if1 .left) (c .before .before .ended .ensures l)
+returns-2 c = rw (c .before .before .before .before .before .if1 .left) (c .before .before .ended .ensures)
 
 pub line-break-spec : {M : Type 1} → statement M
 line-break-spec =

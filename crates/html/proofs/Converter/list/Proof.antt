@@ -2,6 +2,7 @@
 -- Assumes nothing.
 use mathlib.Core.Path.{refl}
 use native.Mathlib.Omega.{arith}
+use Prim.Native.Nat.{_<_}
 use denote.Ref.{now}
 use Rattle.html.specs.Struct.{state-of, tagged}
 use Rattle.html.proofs.GrowLaws.{len-of}
@@ -15,10 +16,10 @@ closed-requires c κs = search needs
 
 changed-requires : tie.Need-changed-requires
 changed-requires c κs =
-    let a = c .before .before .before .before .before .args in
-    let l = now (a .lists) in
+    let at-start = c .before .before .before .before in
+    let a = at-start .args in
     let w = now (a .out) in
-    omega (arith, len-of _ l w _ (c .before .closed .ensures l w), len-of (a .self) l w _ refl)
+    omega (arith, len-of _ w _ (c .before .closed .ensures w), len-of (a .self) w _ refl)
 
 same-length : tie.Need-same-length
 same-length c = search needs
@@ -26,42 +27,44 @@ same-length c = search needs
 returns : tie.Need-returns
 unfolding tagged
 returns c =
-    let a = c .before .before .before .before .before .before .before .before .args in
-    let l = now (a .lists) in
+    let at-closed = c .before .before .before .before in
+    let at-if = at-closed .before in
+    let a = at-if .before .before .args in
     let w = now (a .out) in
-    rw (c .before .before .before .before .before .if1 .taken) (list-closes (a .first) (a .self) (c .before .before .before .before .closed .result) _ l w _ (c .before .before .before .before .closed .ensures l w) (c .before .before .changed .ensures l))
+    rw (at-if .if1 .taken) (list-closes (a .first) (a .self) (at-closed .closed .result) _ w _ (at-closed .closed .ensures w) (c .before .before .changed .ensures))
 
 returns-2 : tie.Need-returns-2
 unfolding tagged
 returns-2 c =
-    let a = c .before .before .before .before .before .args in
-    let l = now (a .lists) in
+    let at-if = c .before .before in
+    let a = at-if .before .before .args in
     let w = now (a .out) in
-    rw (c .before .before .if1 .left) (list-full (a .first) (state-of (a .self) l w) (omega (arith, depth-is (a .self) l w _ refl, c .if2 .taken)))
+    rw (at-if .if1 .left) (list-full (a .first) (state-of (a .self) w) (omega (arith, depth-is (a .self) w _ refl, c .if2 .taken)))
 
 opened-requires : tie.Need-opened-requires
 opened-requires c κs = search needs
 
 changed-requires-2 : tie.Need-changed-requires-2
 changed-requires-2 c κs =
-    let a = c .before .before .before .before .before .before .before .before .before .before .args in
-    let l = now (a .lists) in
+    let at-opened = c .before in
+    let a = at-opened .before .before .before .before .before .args in
     let w = now (a .out) in
-    omega (arith, len-of _ _ w _ (c .before .before .before .opened .ensures w), len-of (a .self) l w _ refl)
+    omega (arith, len-of _ w _ (at-opened .opened .ensures w), len-of (a .self) w _ refl)
 
 same-length-2 : tie.Need-same-length-2
 same-length-2 c = search needs
 
-same-length-3 : tie.Need-same-length-3
-same-length-3 c = search needs
-
 returns-3 : tie.Need-returns-3
 unfolding tagged
 returns-3 c =
-    let a = c .before .before .before .before .before .before .before .before .before .before .before .before .before .args in
-    let l = now (a .lists) in
+    let at-opened = c .before .before .before .before in
+    let at-full = at-opened .before in
+    let at-if = at-full .before .before in
+    let a = at-if .before .before .args in
     let w = now (a .out) in
-    rw (c .before .before .before .before .before .before .before .before .before .before .if1 .left) (list-opens (a .first) (a .self) (c .before .before .before .before .before .before .opened .result) _ l _ w _ (omega (arith, c .before .before .before .before .before .before .before .before .if2 .left)) (c .before .before .before .before .before .before .opened .ensures w) (c .before .before .changed2 .ensures _))
+    let room : a .self .depth < 64 = omega (arith, at-full .if2 .left) in
+    let made = list-opens (a .first) (a .self) (at-opened .opened .result) _ w _ room (at-opened .opened .ensures w) (c .before .before .changed2 .ensures) in
+    rw (at-if .if1 .left) made
 
 pub list-spec : {M : Type 1} → statement M
-list-spec = tie.close (tie.spec closed-requires changed-requires same-length returns returns-2 opened-requires changed-requires-2 same-length-2 same-length-3 returns-3)
+list-spec = tie.close (tie.spec closed-requires changed-requires same-length returns returns-2 opened-requires changed-requires-2 same-length-2 returns-3)

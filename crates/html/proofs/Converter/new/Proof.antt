@@ -7,7 +7,7 @@ use Rattle.html.proofs.Converter.new.Tie as tie
 
 returns : tie.Need-returns
 unfolding state-of out-of
-returns c = λ l w. rw chars-nil
+returns c = λ w. rw chars-nil
 
 pub new-spec : {M : Type 1} → statement M
 new-spec = tie.close (tie.spec returns)

@@ -17,7 +17,7 @@ same-length c = search needs
 returns : tie.Need-returns
 unfolding tag state-of
 returns c =
-    λ l. ap (with-pre (not (c .before .before .before .before .before .args .closing))) (c .before .before .block .ensures l)
+    ap (with-pre (not (c .before .before .before .before .before .args .closing))) (c .before .before .block .ensures)
 
 pub pre-tag-spec : {M : Type 1} → statement M
 pre-tag-spec = tie.close (tie.spec block-requires same-length returns)

@@ -13,11 +13,11 @@ same-length c = search needs
 
 returns : tie.Need-returns
 unfolding tag
-returns c = λ l. rw (c .before .before .before .before .if1 .taken) (c .before .before .newline .ensures l)
+returns c = rw (c .before .before .before .before .if1 .taken) (c .before .before .newline .ensures)
 
 returns-2 : tie.Need-returns-2
 unfolding tag
-returns-2 c = λ l. rw (c .if1 .left)
+returns-2 c = rw (c .if1 .left)
 
 pub row-spec : {M : Type 1} → statement M
 row-spec = tie.close (tie.spec newline-requires same-length returns returns-2)

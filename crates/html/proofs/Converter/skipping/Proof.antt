@@ -7,7 +7,7 @@ use Rattle.html.proofs.Converter.skipping.Tie as tie
 
 returns : tie.Need-returns
 unfolding state-of
-returns c = λ l w. refl
+returns c = λ w. refl
 
 pub skipping-spec : {M : Type 1} → statement M
 skipping-spec = tie.close (tie.spec returns)

@@ -19,7 +19,7 @@ returns : tie.Need-returns
 unfolding pen-state state-of text
 returns c =
     let a = c .before .before .before .before .before .before .args in
-    λ l. c .before .before .ink .ensures (state-of (a .self) l (now (a .out))) refl
+    c .before .before .ink .ensures (state-of (a .self) (now (a .out))) refl
 
 pub text-spec : {M : Type 1} → statement M
 text-spec = tie.close (tie.spec ink-requires same-length returns)

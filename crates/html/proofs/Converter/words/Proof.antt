@@ -21,16 +21,19 @@ same-length c = search needs
 returns : tie.Need-returns
 unfolding state-of
 returns c =
-    let a = c .before .before .before .before .before .before .before .before .args in
-    λ l.
-    c .before .before .text .ensures l
-    ∙ words-shown (chars (now (a .raw))) (state-of (a .self) l (now (a .out))) (a .self .skip) refl (sym (c .before .before .before .before .before .skip-no .ensures) ∙ c .before .before .before .before .if1 .taken)
+    let at-text = c .before .before in
+    let at-if1 = at-text .before .before in
+    let at-skip-no = at-if1 .before in
+    let at-start = at-skip-no .before .before .before in
+    let a = at-start .args in
+    at-text .text .ensures
+    ∙ words-shown (chars (now (a .raw))) (state-of (a .self) (now (a .out))) (a .self .skip) refl (sym (at-skip-no .skip-no .ensures) ∙ at-if1 .if1 .taken)
 
 returns-2 : tie.Need-returns-2
 unfolding state-of
 returns-2 c =
     let a = c .before .before .before .before .args in
-    λ l. words-skipped (chars (now (a .raw))) (state-of (a .self) l (now (a .out))) (a .self .skip) refl (λ e. c .if1 .left (c .before .skip-no .ensures ∙ e))
+    words-skipped (chars (now (a .raw))) (state-of (a .self) (now (a .out))) (a .self .skip) refl (λ e. c .if1 .left (c .before .skip-no .ensures ∙ e))
 
 pub words-spec : {M : Type 1} → statement M
 words-spec = tie.close (tie.spec skip-no-requires text-requires same-length returns returns-2)
