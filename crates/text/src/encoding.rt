@@ -64,7 +64,8 @@ fn bytes_of(c: u32) -> Four
     }
 }
 
-// Writes the character c at `at`, and answers how many bytes that took: none where c is no character or has no room.
+// Writes the code c at `at` in the form of UTF-8, and answers how many bytes that took: none where c is above 10FFFF (hexadecimal) or has no room.
+// A surrogate is written like any other code of three bytes; `is_scalar` tells it from a character.
 pub fn put(out: &mut [u8], at: usize, c: u32) -> usize
     ensures { λ r. ⌜ (r ≡ put-size (length (now (out .entry))) at c) × (now (out .exit) ≡ put-at (now (out .entry)) at c) ⌝ }
 {
