@@ -41,7 +41,7 @@ pub enum Skip {
 pub struct Converter {
     pub len: usize,
     pub depth: usize,
-    pub lists: [u16; 64],
+    pub lists: [u16; Converter::MAX_LISTS],
     pub pre: bool,
     pub skip: Skip,
     pub space: bool,
