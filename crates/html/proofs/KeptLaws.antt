@@ -1,8 +1,8 @@
 -- No step takes more from the output than the spaces at its end, and an item adds to what is left: so the output bounds the items that were begun.
 -- Assumes nothing.
-use Prim.Native.Nat.{ℕ, zero, suc, _+_, _≤_, _<_}
+use Prim.Native.Nat.{ℕ, zero, suc, _+_, _≤_}
 use native.Mathlib.Omega.{arith}
-use mathlib.Core.Path.{_≡_, refl, sym, ap, _∙_}
+use mathlib.Core.Path.{_≡_, ap, _∙_}
 use mathlib.Core.Bool.{Bool, true, false, _&&_, _||_, not}
 use mathlib.Core.List.{List, [], _∷_, _++_, reverseAux, reverseAux-append}
 use lib.Dec.{eqb}
@@ -13,7 +13,7 @@ use Rattle.text.specs.Decimal.{decimal}
 use Rattle.text.proofs.Tests.{on}
 use Rattle.text.proofs.Utf8.{utf8-1}
 use Rattle.reference.specs.Unescape.{unescape}
-use Rattle.html.specs.State.{State, push-str, line-start, block, newline, spaced, marks, escape, blank, put, next, paused, put-all, text, item}
+use Rattle.html.specs.State.{State, line-start, block, newline, spaced, marks, escape, blank, put, next, paused, put-all, text, item}
 use Rattle.html.proofs.GrowLaws.{size-spaces}
 
 -- the bytes of an output without the spaces at its end

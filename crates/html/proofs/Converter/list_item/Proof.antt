@@ -2,7 +2,6 @@
 -- Assumes nothing.
 use mathlib.Core.Path.{_∙_}
 use native.Mathlib.Omega.{arith}
-use denote.Ref.{now}
 use Rattle.html.specs.State.{tag, newline}
 use Rattle.html.proofs.GrowLaws.{grown, grow-newline}
 use Rattle.html.proofs.StepLaws.{newline-same, like, item-tag}
