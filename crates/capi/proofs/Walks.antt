@@ -11,7 +11,7 @@ use Rattle.walker.specs.Walk.{Walk}
 use Rattle.walker.proofs.Walked.{walk-gives-back}
 use Rattle.markdown.specs.Blocks.{blocks}
 use Rattle.markdown.specs.Calls.{blocks-call}
-use Rattle.markdown.proofs.BlocksWf.{blocks-wf, call-wf}
+use Rattle.markdown.proofs.Wf.{blocks-wf, call-wf}
 
 pub blocks-walk : (m : List ℕ) → Scalars m → size m ≤ 65536 → Walk (encode-blocks (blocks m)) 0 (blocks m)
 blocks-walk m h s = walk-gives-back (blocks m) (blocks-wf m h s)

@@ -16,5 +16,5 @@ pub mod LineSteps
 pub mod ReadLine
 pub mod ReadAll
 pub mod CallLaws
-pub mod BlocksWf
+pub mod Wf
 pub mod Examples

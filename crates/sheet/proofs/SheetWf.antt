@@ -6,7 +6,7 @@ use mathlib.Core.Path.{subst}
 use mathlib.Core.List.{List}
 use Rattle.text.specs.Utf8.{Scalars, size}
 use Rattle.records.specs.Format.{WfBlocks}
-use Rattle.markdown.proofs.BlocksWf.{blocks-wf}
+use Rattle.markdown.proofs.Wf.{blocks-wf}
 use Rattle.sheet.specs.Tree.{Block}
 use Rattle.sheet.specs.Grammar.{IsPage}
 use Rattle.sheet.specs.Written.{written, blocks-of}
