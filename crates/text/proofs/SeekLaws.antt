@@ -4,15 +4,16 @@ use Prim.Native.Nat.{ℕ, suc, _+_, _≤_, _<_}
 use mathlib.Core.Bool.{Bool, true, false, not, _&&_, _||_, and-assoc, and-true as and-true-right}
 use mathlib.Core.Option.{Option, none, some}
 use mathlib.Core.List.{List, [], _∷_}
-use mathlib.Core.Path.{_≡_, refl, sym, ap, _∙_}
+use mathlib.Core.Path.{_≡_, refl, sym, ap, _∙_, subst}
 use native.Mathlib.Omega.{arith}
 use lib.Dec.{eqb}
 use lib.ListN.{length, getD, drop, length-drop}
 use Rattle.text.specs.Words.{_>>=_, starts-with, index}
-use Rattle.text.specs.Run.{SeekTo}
+use Rattle.text.specs.Run.{SeekTo, other}
 use Rattle.text.specs.Find.{found}
 use Rattle.text.specs.declared.Found.the-variants.{Here, Nowhere}
 use Rattle.text.proofs.Lists.{drop-next}
+use Rattle.text.proofs.Tests.{false-true, and-false}
 use Rattle.text.proofs.AsciiLaws.{starts-short}
 
 found-later : (i : ℕ) (o : Option ℕ) → found i (o >>= (λ n. some (suc n))) ≡ found (i + 1) o
@@ -48,8 +49,12 @@ module _ (p s : List ℕ) where
     pub seek-on : (j k : ℕ) → SeekTo p s i j → SeekTo p s j k → SeekTo p s i k
     seek-on j k h l = record { low = omega (arith, h .low, l .low); high = l .high; same = h .same ∙ l .same }
 
-    pub seek-here : (j : ℕ) → SeekTo p s i j → j < length s → starts-with p (drop j s) ≡ true → found i (index p (drop i s)) ≡ Here j
-    seek-here j h l e = h .same ∙ rw (place-here j l e) (ap Here (omega arith))
+    -- by the answer r of a test for p at j
+    pub seek-not : (j : ℕ) (r : Bool) → SeekTo p s i j → j < length s → r ≡ starts-with p (drop j s) → r ≡ false → SeekTo p s i (j + 1)
+    seek-not j r h l e f = seek-next j h l (sym e ∙ f)
+
+    pub seek-found : (j : ℕ) (r : Bool) → SeekTo p s i j → j < length s → r ≡ starts-with p (drop j s) → r ≡ true → Here j ≡ found i (index p (drop i s))
+    seek-found j r h l e f = sym (h .same ∙ rw (place-here j l (sym e ∙ f)) (ap Here (omega arith)))
 
 -- ---- three bytes at a place
 starts-at : (d : ℕ) (p s : List ℕ) (j : ℕ) → j < length s → starts-with (d ∷ p) (drop j s) ≡ eqb (getD s j 0) d && starts-with p (drop (j + 1) s)
@@ -79,3 +84,28 @@ module _ (s : List ℕ) (a b c j : ℕ) (l : j + 3 ≤ length s) where
       by true true false e = refl
       by true false v e = refl
       by false u v e = refl
+
+  -- where the third byte is none of them, they stand at none of the three places that reach it
+  module _ (r : Bool) (told : r ≡ other a (getD s (j + 2) 0) && other b (getD s (j + 2) 0) && other c (getD s (j + 2) 0)) (yes : r ≡ true) where
+    none-of : (eqb (getD s (j + 2) 0) a ≡ false) × ((eqb (getD s (j + 2) 0) b ≡ false) × (Z ≡ false))
+    unfolding other
+    none-of = by (eqb (getD s (j + 2) 0) a) (eqb (getD s (j + 2) 0) b) Z (sym told ∙ yes)
+      where
+        by : (t u v : Bool) → not t && not u && not v ≡ true → (t ≡ false) × ((u ≡ false) × (v ≡ false))
+        by false false false e = (refl, (refl, refl))
+        by false false true e = false-true e
+        by false true v e = false-true e
+        by true u v e = false-true e
+
+    pub three-apart : SeekTo (a ∷ b ∷ c ∷ []) s j (j + 3)
+    three-apart =
+        let p = a ∷ b ∷ c ∷ [] in
+        let q : j + 1 + 1 ≡ j + 2 = omega arith in
+        let r : j + 1 + 1 + 1 ≡ j + 3 = omega arith in
+        let here : starts-with p (drop j s) ≡ false = three-at ∙ and-false (X && Y) Z (none-of .1 .1) in
+        let behind : starts-with (b ∷ c ∷ []) (drop (j + 1 + 1) s) ≡ false = rw q (starts-at b (c ∷ []) s (j + 2) (omega arith) ∙ rw (none-of .1 .0) refl) in
+        let next : starts-with p (drop (j + 1) s) ≡ false = starts-at a (b ∷ c ∷ []) s (j + 1) (omega arith) ∙ and-false (eqb (getD s (j + 1) 0) a) _ behind in
+        let last : starts-with p (drop (j + 1 + 1) s) ≡ false = rw q (starts-at a (b ∷ c ∷ []) s (j + 2) (omega arith) ∙ rw (none-of .0) refl) in
+        let past-one = seek-next p s j j (seek-start p s j (omega arith)) (omega arith) here in
+        let past-two = seek-next p s j (j + 1) past-one (omega arith) next in
+        subst (λ (k : ℕ). SeekTo p s j k) r (seek-next p s j (j + 1 + 1) past-two (omega arith) last)

@@ -1,7 +1,7 @@
 // Bytes searched and compared.
 ghost use Prim.Native.Nat.{_+_, _≤_};
 ghost use mathlib.Core.Path.{_≡_};
-ghost use mathlib.Core.Bool.{true};
+ghost use mathlib.Core.Bool.{true, _&&_};
 ghost use mathlib.Core.List.{[], _∷_};
 ghost use lib.ListN.{length, take, drop};
 ghost use Rattle.text.specs.Words.{all, starts-with, index};
@@ -70,13 +70,10 @@ pub fn find(s: &[u8], i: usize, b: u8) -> Found
 // Whether a b c stand at none of the 32 places from i on, tested as in `is_ascii_block`. Asked only where i is a multiple of 8, so that a near place
 // is found without it.
 fn is_free_block(s: &[u8], i: usize, a: u8, b: u8, c: u8) -> bool
-    requires { ⌜ i ≤ length (now s) ⌝ }
+    requires { ⌜ i + 34 ≤ length (now s) ⌝ }
     ensures { λ r. ⌜ (r ≡ true → SeekTo (a ∷ b ∷ c ∷ []) (now (s .entry)) i (i + 32)) ⌝ }
 {
     if i % 8 != 0 {
-        return false;
-    }
-    if s.len() - i < 34 {
         return false;
     }
     let mut free = true;
@@ -89,6 +86,40 @@ fn is_free_block(s: &[u8], i: usize, a: u8, b: u8, c: u8) -> bool
     free
 }
 
+// Whether a b c stand at i.
+fn is_here(s: &[u8], i: usize, a: u8, b: u8, c: u8) -> bool
+    requires { ⌜ i + 3 ≤ length (now s) ⌝ }
+    ensures { λ r. ⌜ r ≡ starts-with (a ∷ b ∷ c ∷ []) (drop i (now (s .entry))) ⌝ }
+{
+    (s[i] == a) & (s[i + 1] == b) & (s[i + 2] == c)
+}
+
+// Whether x is none of a, b and c. Where the byte after the next is none of them, a b c stand at none of the three places that reach it.
+fn is_none_of(x: u8, a: u8, b: u8, c: u8) -> bool
+    ensures { λ r. ⌜ r ≡ other a x && other b x && other c x ⌝ }
+{
+    (x != a) & (x != b) & (x != c)
+}
+
+// `find3` near the end of s, where no block is left.
+fn find3_near(s: &[u8], i: usize, a: u8, b: u8, c: u8) -> Found
+    requires { ⌜ i ≤ length (now s) ⌝ }
+    ensures { λ r. ⌜ r ≡ found i (index (a ∷ b ∷ c ∷ []) (drop i (now (s .entry)))) ⌝ }
+{
+    let mut j = i;
+    while 3 <= s.len() - j {
+        if is_none_of(s[j + 2], a, b, c) {
+            j += 3;
+            continue;
+        }
+        if is_here(s, j, a, b, c) {
+            return Found::Here(j);
+        }
+        j += 1;
+    }
+    Found::Nowhere
+}
+
 // The first place of s at or after i where a b c stand.
 fn find3(s: &[u8], i: usize, a: u8, b: u8, c: u8) -> Found
     ensures { λ r. ⌜ r ≡ found i (index (a ∷ b ∷ c ∷ []) (drop i (now (s .entry)))) ⌝ }
@@ -97,17 +128,17 @@ fn find3(s: &[u8], i: usize, a: u8, b: u8, c: u8) -> Found
         return Found::Nowhere;
     }
     let mut j = i;
-    while 3 <= s.len() - j {
+    while 34 <= s.len() - j {
         if is_free_block(s, j, a, b, c) {
             j += 32;
             continue;
         }
-        if (s[j] == a) & (s[j + 1] == b) & (s[j + 2] == c) {
+        if is_here(s, j, a, b, c) {
             return Found::Here(j);
         }
         j += 1;
     }
-    Found::Nowhere
+    find3_near(s, j, a, b, c)
 }
 
 // Where a comment ends: after the first `-->` of s at or after i, or at the end of s.

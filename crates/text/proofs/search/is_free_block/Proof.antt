@@ -21,14 +21,8 @@ abbrev μ-loop : tie.MeasureT-loop
 returns : tie.Need-returns Inv-loop μ-loop
 returns c = λ e. false-true e
 
-sub-if2 : tie.Need-sub-if2 Inv-loop μ-loop
-sub-if2 c = omega arith
-
-returns-2 : tie.Need-returns-2 Inv-loop μ-loop
-returns-2 c = λ e. false-true e
-
 loop-holds : tie.Need-loop-holds Inv-loop μ-loop
-loop-holds c = let i = c .before .before .args .i in (λ _. rw (add-zero i) (seek-start _ _ i (omega arith)), omega arith)
+loop-holds c = let i = c .before .args .i in (λ _. rw (add-zero i) (seek-start _ _ i (omega arith)), omega arith)
 
 add-j : tie.Need-add-j Inv-loop μ-loop
 add-j c = omega arith
@@ -56,7 +50,7 @@ loop-less c = omega arith
 
 loop-again : tie.Need-loop-again Inv-loop μ-loop
 loop-again c =
-    let a = c .before .before .before .before .before .before .before .args in
+    let a = c .before .before .before .before .before .before .args in
     let l = c .before .before .before .before .loop in
     let n : a .i + l .k + 1 ≡ a .i + (l .k + 1) = omega arith in (
       λ e.
@@ -65,8 +59,8 @@ loop-again c =
       omega arith,
     )
 
-returns-3 : tie.Need-returns-3 Inv-loop μ-loop
-returns-3 c = let q : c .before .loop .k ≡ 32 = omega arith in rw q at (c .before .loop .inv .0)
+returns-2 : tie.Need-returns-2 Inv-loop μ-loop
+returns-2 c = let q : c .before .loop .k ≡ 32 = omega arith in rw q at (c .before .loop .inv .0)
 
 pub is-free-block-spec : {M : Type 1} → statement M
 is-free-block-spec =
@@ -75,8 +69,6 @@ is-free-block-spec =
     Inv-loop
     μ-loop
     returns
-    sub-if2
-    returns-2
     loop-holds
     add-j
     shared-slice-read-free
@@ -87,4 +79,4 @@ is-free-block-spec =
     add-k
     loop-less
     loop-again
-    returns-3)
+    returns-2)
