@@ -12,6 +12,7 @@ use lib.Dec.{ltb}
 use lib.ListN.{length, getD, take, drop, length-take, length-drop, length-append, drop-of-length-le}
 use lib.Seq.{drop-cons, drop-drop, drop-append-seam, drop-length, take-all, length-take-le}
 use borrow.Author.Tests.{lt-ltb, le-ltb, ltb-true, ltb-false}
+use Rattle.text.specs.Chars.{Ascii}
 use Rattle.text.specs.Words.{if_then_else_, _>>=_, case, starts, index, find}
 use Rattle.text.specs.Utf8.{Scalars, encode, size, chars}
 use Rattle.text.specs.Trim.{trim}
@@ -77,6 +78,12 @@ module _ (s : List ℕ) (u : ℕ) (d : State) where
   further : (k n : ℕ) → k ≡ u + n → drop k s ≡ drop n r
   further k n e = ap (λ (j : ℕ). drop j s) e ∙ sym (drop-drop n u s)
 
+  -- `markup` by what its three searches find, where k characters stand before it
+  abbrev searched : ℕ → Bool → Option ℕ → Option ℕ → Turn
+  searched k b o p =
+      cond b (case o (read (k + length r) d) (λ end. read (k + 4 + end + 3) d))
+      (case p (read (k + length r) d) (λ end. tag-read (k + end + 1) (inside (trim (drop 1 (take end r))) d)))
+
   markup-at : left s (markup u r d) ≡ left r (markup 0 r d)
   unfolding markup comment a-tag
   markup-at = go (starts "<!--" r) (find "-->" (drop 4 r)) (find ">" r)
@@ -85,9 +92,7 @@ module _ (s : List ℕ) (u : ℕ) (d : State) where
       after k n e none = refl
       after k n e (some x) = ap (λ (l : List ℕ). some (l, x)) (further k n e)
 
-      go : (b : Bool) (o p : Option ℕ)
-          → left s (cond b (case o (read (u + length r) d) (λ end. read (u + 4 + end + 3) d)) (case p (read (u + length r) d) (λ end. tag-read (u + end + 1) (inside (trim (drop 1 (take end r))) d))))
-          ≡ left r (cond b (case o (read (0 + length r) d) (λ end. read (0 + 4 + end + 3) d)) (case p (read (0 + length r) d) (λ end. tag-read (0 + end + 1) (inside (trim (drop 1 (take end r))) d))))
+      go : (b : Bool) (o p : Option ℕ) → left s (searched u b o p) ≡ left r (searched 0 b o p)
       go true none p = ap (λ (l : List ℕ). some (l, d)) (further (u + length r) (0 + length r) (omega arith))
       go true (some end) p = ap (λ (l : List ℕ). some (l, d)) (further (u + 4 + end + 3) (0 + 4 + end + 3) (omega arith))
       go false o none = ap (λ (l : List ℕ). some (l, d)) (further (u + length r) (0 + length r) (omega arith))
@@ -175,13 +180,21 @@ module _ (h : List ℕ) (j : ℕ) (d : State) (t : Bool) (e : t ≡ starts "<!--
   abbrev mark : List ℕ
   mark = chars (drop j h)
 
+  abbrev opening : List ℕ
+  opening = 60 ∷ 33 ∷ 45 ∷ 45 ∷ []
+
+  opening-ascii : Ascii opening
+  opening-ascii = (omega arith, (omega arith, (omega arith, (omega arith, tt))))
+
   starts-is : starts "<!--" mark ≡ t
-  starts-is = starts-chars (60 ∷ 33 ∷ 45 ∷ 45 ∷ []) (drop j h) (omega arith, (omega arith, (omega arith, (omega arith, tt)))) ∙ sym e
+  starts-is = starts-chars opening (drop j h) opening-ascii ∙ sym e
 
   pub bytes-comment : (r : ℕ) → t ≡ true → r ≡ comment-end h (j + 4) → some (chars (drop r h), d) ≡ left mark (markup 0 mark d)
   bytes-comment r y g =
-      let p : chars (drop (j + 4) h) ≡ drop 4 mark = ap chars (sym (drop-drop 4 j h)) ∙ drop-chars (60 ∷ 33 ∷ 45 ∷ 45 ∷ []) (drop j h) (omega arith, (omega arith, (omega arith, (omega arith, tt)))) (sym e ∙ y) in
-      sym (markup-comment mark d (starts-is ∙ y) ∙ ap (λ (l : List ℕ). some (l, d)) (sym (ap chars (ap (λ (k : ℕ). drop k h) g ∙ end-left h (j + 4)) ∙ closed-chars (drop (j + 4) h) ∙ ap closed p)))
+      let p : chars (drop (j + 4) h) ≡ drop 4 mark = ap chars (sym (drop-drop 4 j h)) ∙ drop-chars opening (drop j h) opening-ascii (sym e ∙ y) in
+      let end : drop r h ≡ closed (drop (j + 4) h) = ap (λ (k : ℕ). drop k h) g ∙ end-left h (j + 4) in
+      let rest : chars (drop r h) ≡ closed (drop 4 mark) = ap chars end ∙ closed-chars (drop (j + 4) h) ∙ ap closed p in
+      sym (markup-comment mark d (starts-is ∙ y) ∙ ap (λ (l : List ℕ). some (l, d)) (sym rest))
 
   pub bytes-unclosed : t ≡ false → found j (index (62 ∷ []) (drop j h)) ≡ Nowhere → some (chars (drop (length h) h), d) ≡ left mark (markup 0 mark d)
   bytes-unclosed n g =
@@ -256,7 +269,9 @@ turn-reads s c h = go (find "<" s)
         close none = some-of at
         close (some e) = omega arith
 
-        end : (o : Option ℕ) → Reads (case o (read (at + length (drop at s)) (words (take at s) c)) (λ e. tag-read (at + e + 1) (inside (trim (drop 1 (take e (drop at s)))) (words (take at s) c))))
+        end : (o : Option ℕ)
+            → let d = words (take at s) c in
+            Reads (case o (read (at + length (drop at s)) d) (λ e. tag-read (at + e + 1) (inside (trim (drop 1 (take e (drop at s)))) d)))
         end none = some-of at
         end (some e) = tag-reads (at + e) (inside (trim (drop 1 (take e (drop at s)))) (words (take at s) c))
 

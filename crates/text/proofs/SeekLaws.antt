@@ -101,11 +101,11 @@ module _ (s : List ℕ) (a b c j : ℕ) (l : j + 3 ≤ length s) where
     three-apart =
         let p = a ∷ b ∷ c ∷ [] in
         let q : j + 1 + 1 ≡ j + 2 = omega arith in
-        let r : j + 1 + 1 + 1 ≡ j + 3 = omega arith in
+        let three : j + 1 + 1 + 1 ≡ j + 3 = omega arith in
         let here : starts-with p (drop j s) ≡ false = three-at ∙ and-false (X && Y) Z (none-of .1 .1) in
         let behind : starts-with (b ∷ c ∷ []) (drop (j + 1 + 1) s) ≡ false = rw q (starts-at b (c ∷ []) s (j + 2) (omega arith) ∙ rw (none-of .1 .0) refl) in
         let next : starts-with p (drop (j + 1) s) ≡ false = starts-at a (b ∷ c ∷ []) s (j + 1) (omega arith) ∙ and-false (eqb (getD s (j + 1) 0) a) _ behind in
         let last : starts-with p (drop (j + 1 + 1) s) ≡ false = rw q (starts-at a (b ∷ c ∷ []) s (j + 2) (omega arith) ∙ rw (none-of .0) refl) in
         let past-one = seek-next p s j j (seek-start p s j (omega arith)) (omega arith) here in
         let past-two = seek-next p s j (j + 1) past-one (omega arith) next in
-        subst (λ (k : ℕ). SeekTo p s j k) r (seek-next p s j (j + 1 + 1) past-two (omega arith) last)
+        subst (λ (k : ℕ). SeekTo p s j k) three (seek-next p s j (j + 1 + 1) past-two (omega arith) last)

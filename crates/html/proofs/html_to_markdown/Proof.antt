@@ -104,8 +104,6 @@ slice-aggregate-convert c =
     let at-is-utf8 = at-if1 .before in
     let at-start = at-is-utf8 .before .before .before .before in
     let p = now (at-start .args .page) in
-    let w = now (at-start .args .work) in
-    let r = now (at-start .args .result) in
     let u = sym (at-is-utf8 .is-utf8 .ensures) ∙ not-false (at-is-utf8 .is-utf8 .result) (at-if1 .if1 .left) in
     let n = at-cut-len .cut-len .result in
     let e = at-cut-len .cut-len .ensures in
@@ -119,8 +117,6 @@ convert-requires c κs =
     let at-is-utf8 = at-if1 .before in
     let at-start = at-is-utf8 .before .before .before .before in
     let p = now (at-start .args .page) in
-    let w = now (at-start .args .work) in
-    let r = now (at-start .args .result) in
     let u = sym (at-is-utf8 .is-utf8 .ensures) ∙ not-false (at-is-utf8 .is-utf8 .result) (at-if1 .if1 .left) in
     let n = at-cut-len .cut-len .result in
     let e = at-cut-len .cut-len .ensures in
@@ -153,16 +149,6 @@ finish-requires c κs =
     let at-if5 = c .before .before .before in
     let at-convert = at-if5 .before .before .before .before in
     let at-if3 = at-convert .before .before .before .before in
-    let at-cut-len = at-if3 .before .before in
-    let at-if1 = at-cut-len .before in
-    let at-is-utf8 = at-if1 .before in
-    let at-start = at-is-utf8 .before .before .before .before in
-    let p = now (at-start .args .page) in
-    let w = now (at-start .args .work) in
-    let r = now (at-start .args .result) in
-    let u = sym (at-is-utf8 .is-utf8 .ensures) ∙ not-false (at-is-utf8 .is-utf8 .result) (at-if1 .if1 .left) in
-    let n = at-cut-len .cut-len .result in
-    let e = at-cut-len .cut-len .ensures in
     (at-convert .convert .ensures .1 (not-false (at-convert .convert .result .ok) (at-if5 .if5 .left)), at-if3 .if3 .left)
 
 same-length-2 : tie.Need-same-length-2
