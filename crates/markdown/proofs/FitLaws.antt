@@ -15,10 +15,9 @@ use lib.ListN.{length, drop, length-append}
 use Rattle.text.specs.Words.{str, is, all, starts, take-while, drop-while, trim-end-matches, trim-matches}
 use Rattle.text.specs.Chars.{within, is-digit, is-space}
 use Rattle.text.specs.Utf8.{IsScalar, Scalars, utf8, size}
-use Rattle.text.proofs.Tests.{on, and-true, within-true, false-true}
+use Rattle.text.proofs.Tests.{on, by-case, and-true, within-true, false-true}
 use Rattle.text.proofs.Laws.{utf8-size, size-append, size-aux, scalars-append, scalars-reverse}
 use Rattle.records.specs.Format.{is-bullet, digits-stop, is-ordinal, is-marker}
-use Rattle.spans.proofs.Turns.{by-case}
 use Rattle.markdown.specs.Blocks.{Marked, marker-at, list-marker, comment, cleaned, before-lines, lines, replace, row}
 
 -- ---- a text of scalar values and of at most n bytes

@@ -17,14 +17,13 @@ use Rattle.text.specs.Chars.{is-space}
 use Rattle.text.specs.Utf8.{Scalars, utf8, size, decode}
 use Rattle.text.specs.Trim.{trim}
 use Rattle.text.specs.Outcome.{Outcome, refused, wrote}
-use Rattle.text.proofs.Tests.{on}
+use Rattle.text.proofs.Tests.{on, by-case}
 use Rattle.text.proofs.Laws.{size-append, size-encode, scalars-append, decode-iff}
 use Rattle.records.specs.Blocks.{Span, Kind, heading as headed, paragraph as plain, item, Block, Item}
 use Rattle.records.specs.Format.{encode-blocks, WfSpan, WfSpans, WfKind, WfBlocks}
 use Rattle.records.specs.Decode.{parsed, decode-blocks}
 use Rattle.records.proofs.RoundTrip.{records-give-back}
 use Rattle.spans.specs.Spans.{spans}
-use Rattle.spans.proofs.Turns.{by-case}
 use Rattle.spans.proofs.Bounds.{spans-few}
 use Rattle.spans.proofs.Wf.{spans-wf}
 use Rattle.markdown.specs.Blocks.{is-rule, list-marker, cleaned, lines, row, Reader, reader, flush, added, heading, joined, paragraph, plain-space, with-spans, continued, continuation, read-text, read-line, read-lines, blocks}

@@ -2,7 +2,7 @@
 -- Assumes nothing.
 use Prim.Native.Nat.{ℕ}
 use mathlib.Core.Bool.{Bool}
-use mathlib.Core.List.{List}
+use mathlib.Core.List.{List, [], _∷_, _++_}
 
 -- one piece of a line with its emphasis
 pub record Span : Type 0 where
@@ -10,6 +10,11 @@ pub record Span : Type 0 where
   pub bold : Bool
   pub italic : Bool
   pub code : Bool
+
+-- the joined text of spans: their texts one after the other, with nothing between
+abbrev pub joined : List Span → List ℕ
+joined [] = []
+joined (s ∷ ss) = s .text ++ joined ss
 
 -- a heading has a level; an item a depth and a marker
 pub data Kind : Type 0 where

@@ -10,7 +10,7 @@ use mathlib.Core.List.{List, [], _∷_, _++_, map, map-append, reverse, reverse-
 use lib.ListN.{length, take, drop, length-append, length-reverse}
 use lib.Seq.{drop-drop}
 use lib.Dec.{eqb, ltb}
-use borrow.Author.Tests.{ne-eqb, eqb-true, eqb-false, ltb-true, ltb-false}
+use borrow.Author.Tests.{eqb-true, eqb-false, ltb-true, ltb-false}
 use Rattle.text.specs.Words.{starts-with}
 use Rattle.text.specs.Utf8.{IsScalar, utf8, encode, char, chars, stray}
 use Rattle.text.specs.declared.Char.{Char}
@@ -23,6 +23,7 @@ use Rattle.records.specs.Blocks.{Span}
 use Rattle.spans.specs.Spans.{Walk, at, push, span, flush, link, Step, made, label, kept, code-step, star-step, link-step, image-step, step, carry, walk, spans}
 use Rattle.spans.specs.Turn.{linked, turned}
 use Rattle.spans.proofs.SpanLaws.{shorter-drop, shorter-take, walk-end, walk-next, after, spans-eq}
+use Rattle.spans.proofs.ShownLaws.{step-plain}
 use Rattle.spans.proofs.Both.{Hit, both, starts-both, rest-both, LinkHit, link-both}
 
 -- a span with its text's bytes
@@ -91,10 +92,6 @@ module _ (bs : List ℕ) (same : Same bs) (c : ℕ) (low : c < 0x80) where
       ∙ ap (λ (l : List ℕ). map as-bytes (walk spans (at b i l) 0 (chars bs))) (sym (snoc t c))
       ∙ ap (map as-bytes) (sym (next-made (over b i t) c (chars bs) [] (push c (over b i t)) 0 (g (over b i t))))
       ∙ ap (λ (l : List ℕ). map as-bytes (walk spans (over b i t) 0 l)) (sym (chars-ascii c bs low))
-
-step-plain : (w : Walk) (c : ℕ) (s : List ℕ) → (c ≡ 92 → ⊥) → (c ≡ 96 → ⊥) → (c ≡ 42 → ⊥) → (c ≡ 91 → ⊥) → (c ≡ 33 → ⊥) → step w c s ≡ kept w c
-unfolding step
-step-plain w c s f₁ f₂ f₃ f₄ f₅ = rw (ne-eqb c 92 f₁, ne-eqb c 96 f₂, ne-eqb c 42 f₃, ne-eqb c 91 f₄, ne-eqb c 33 f₅)
 
 step-high : (w : Walk) (c : ℕ) (s : List ℕ) → 0x80 ≤ c → step w c s ≡ kept w c
 step-high w c s h = step-plain w c s (λ e. omega arith) (λ e. omega arith) (λ e. omega arith) (λ e. omega arith) (λ e. omega arith)

@@ -1,6 +1,9 @@
+pub mod SpanLaws
+pub mod LinkLaws
+pub mod ShownLaws
+pub mod NothingInvented
 pub mod Search
 pub mod Records
-pub mod SpanLaws
 pub mod Turns
 pub mod Bounds
 pub mod Wf

@@ -5,14 +5,14 @@ use mathlib.Core.Logic.{⊎-elim}
 use Prim.Native.Nat.{ℕ, suc, _+_, _≤_, _<_}
 use native.Mathlib.Omega.{arith}
 use native.Mathlib.Numerals.{add-one}
-use mathlib.Core.Bool.{Bool, true, false, _&&_}
+use mathlib.Core.Bool.{true}
 use mathlib.Core.Option.{Option, none, some}
 use mathlib.Core.List.{List, [], _∷_}
 use lib.ListN.{length, drop, getD, set, length-drop, length-set, drop-of-length-le, List·getD-eq-default}
 use lib.Seq.{drop-cons, drop-drop, getD-set-same, getD-set-other}
-use lib.Dec.{ltb, eqb}
+use lib.Dec.{ltb}
 use borrow.Author.Tests.{lt-ltb, le-ltb, eq-eqb, ne-eqb, ltb-true, ltb-false}
-use Rattle.text.specs.Words.{if_then_else_, _>>=_, ensure, index, find, starts}
+use Rattle.text.specs.Words.{_>>=_, index, starts}
 use Rattle.text.specs.Find.{found}
 use Rattle.text.specs.declared.Found.the-variants.{Here, Nowhere}
 use Rattle.text.proofs.Tests.{decide, on}
@@ -20,6 +20,7 @@ use Rattle.text.proofs.FindLaws.{found-some, found-none}
 use Rattle.spans.specs.Spans.{link}
 use Rattle.spans.specs.State.{next-at, placed, link-at, Clear, Known, resumed}
 use Rattle.spans.specs.declared.Link.the-variants.{Ends, Nothing}
+use Rattle.spans.proofs.LinkLaws.{index-inside, link-is}
 
 -- ---- one step of a search
 
@@ -136,16 +137,6 @@ pub record At (x : ℕ) (s : List ℕ) (i k : ℕ) : Type 0 where
   pub place : i + more ≡ k
   pub inside : k < length s
 
-pub index-inside : (x : ℕ) (s : List ℕ) (n : ℕ) → index (x ∷ []) s ≡ some n → n < length s
-unfolding index
-index-inside x [] n e = let z : _≡_ {A = ℕ} 0 1 = cc in absurd (omega arith)
-index-inside x (c ∷ s) n e = go (eqb c x && true) (index (x ∷ []) s) (λ k f. index-inside x s k f) n e
-  where
-    go : (t : Bool) (o : Option ℕ) → ((k : ℕ) → o ≡ some k → k < length s) → (n : ℕ) → (if t then some 0 else o >>= (λ k. some (suc k))) ≡ some n → n < suc (length s)
-    go true o f n e = let z : n ≡ 0 = cc in omega arith
-    go false none f n e = let z : _≡_ {A = ℕ} 0 1 = cc in absurd (omega arith)
-    go false (some k) f n e = let z : n ≡ suc k = cc in omega (arith, f k refl)
-
 pub found-at : (x : ℕ) (s : List ℕ) (i k : ℕ) → next-at x s i ≡ Here k → At x s i k
 unfolding next-at
 found-at x s i k e =
@@ -214,40 +205,16 @@ pub record Linked (s : List ℕ) (from x y : ℕ) : Type 0 where
   pub before : x + 2 ≤ y
   pub inside : y < length s
 
--- where a link's label and its end are
-pub record Inside (s : List ℕ) (p : ℕ × ℕ) : Type 0 where
-  pub label : p .0 + 2 ≤ p .1
-  pub end : p .1 < length s
-
-abbrev pub LinkIn : List ℕ → Option (ℕ × ℕ) → Type 0
-LinkIn s none = Unit
-LinkIn s (some p) = Inside s p
-
-pub link-in : (s : List ℕ) → LinkIn s (link s)
-unfolding link
-link-in s = go (find "]" s)
-  where
-    last : (k : ℕ) (o : Option ℕ) → find ")" (drop (k + 2) s) ≡ o → LinkIn s (o >>= λ end. some (k, k + 2 + end))
-    last k none e = tt
-    last k (some n) e = record { label = omega arith; end = omega (arith, index-inside 41 (drop (k + 2) s) n e, length-drop (k + 2) s) }
-
-    test : (k : ℕ) (t : Bool) → LinkIn s (ensure t >>= λ _. find ")" (drop (k + 2) s) >>= λ end. some (k, k + 2 + end))
-    test k true = last k (find ")" (drop (k + 2) s)) refl
-    test k false = tt
-
-    go : (o : Option ℕ) → LinkIn s (o >>= λ close. ensure (starts "(" (drop (close + 1) s)) >>= λ _. find ")" (drop (close + 2) s) >>= λ end. some (close, close + 2 + end))
-    go none = tt
-    go (some k) = test k (starts "(" (drop (k + 1) s))
-
 pub link-found : (s : List ℕ) (from x y : ℕ) → Ends x y ≡ link-at s from → Linked s from x y
-link-found s from x y p = go (link (drop from s)) refl (link-in (drop from s)) p
+link-found s from x y p = go (link (drop from s)) refl p
   where
-    go : (o : Option (ℕ × ℕ)) → link (drop from s) ≡ o → LinkIn (drop from s) o → Ends x y ≡ placed from o → Linked s from x y
-    go none e l p = let z : _≡_ {A = ℕ} 0 1 = cc in absurd (omega arith)
-    go (some q) e l p =
+    go : (o : Option (ℕ × ℕ)) → link (drop from s) ≡ o → Ends x y ≡ placed from o → Linked s from x y
+    go none e p = let z : _≡_ {A = ℕ} 0 1 = cc in absurd (omega arith)
+    go (some q) e p =
+        let l = link-is (drop from s) q e in
         let f : x ≡ from + q .0 = cc in
         let g : y ≡ from + q .1 = cc in
-        record { close = q .0; last = q .1; is = e; close-is = f; last-is = g; before = omega (arith, l .label); inside = omega (arith, l .end, length-drop from s) }
+        record { close = q .0; last = q .1; is = e; close-is = f; last-is = g; before = omega (arith, l .order); inside = omega (arith, l .end, length-drop from s) }
 
 pub unlinked : (s : List ℕ) (from : ℕ) → Nothing ≡ link-at s from → link (drop from s) ≡ none
 unlinked s from p = go (link (drop from s)) p

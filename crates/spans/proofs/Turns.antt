@@ -1,20 +1,19 @@
 -- How far a turn goes, and how much text and how many spans it ends, by any weight of characters.
 -- Assumes nothing.
-use mathlib.Core.Path.{_≡_, refl, ap, subst}
+use mathlib.Core.Path.{_≡_, refl, ap}
 use Prim.Native.Nat.{ℕ, zero, suc, _+_, _*_, _≤_, _<_}
 use native.Mathlib.Nat.{zero-add}
 use native.Mathlib.Omega.{arith}
 use mathlib.Core.Bool.{Bool, true, false, not, _&&_}
-use mathlib.Core.Option.{Option, none, some}
 use mathlib.Core.List.{List, [], _∷_, _++_, map, reverse, reverse-cons}
 use lib.ListN.{length, take, drop, getD, length-append, length-drop, length-map}
-use Rattle.text.specs.Words.{if_then_else_, case, is, is-empty, starts, find}
-use Rattle.text.proofs.Tests.{on, and-true}
+use Rattle.text.specs.Words.{is, is-empty, starts, find}
+use Rattle.text.proofs.Tests.{on, by-case, and-true}
 use Rattle.records.specs.Blocks.{Span}
 use Rattle.spans.specs.Spans.{Walk, at, push, cleared, span, flush, link, Step, made, label, kept, code-step, star-step, link-step, image-step, step, carry, walk, spans}
 use Rattle.spans.specs.Turn.{Turn, turn, linked, turned}
-use Rattle.spans.proofs.Search.{index-inside, Inside, LinkIn, link-in}
-use Rattle.spans.proofs.SpanLaws.{shorter-drop, shorter-take, walk-end, walk-next, spans-eq}
+use Rattle.spans.proofs.LinkLaws.{index-inside, LinkIs, link-is}
+use Rattle.spans.proofs.SpanLaws.{shorter-drop, shorter-take, flushed, not-empty, walk-end, walk-next, spans-eq}
 
 -- ---- weights
 
@@ -54,27 +53,6 @@ texts-append f (x ∷ xs) ys = omega (arith, texts-append f xs ys)
 texts-carry : (f : ℕ → ℕ) (w : Walk) (xs : List Span) → texts f (map (carry w) xs) ≡ texts f xs
 texts-carry f w [] = refl
 texts-carry f w (x ∷ xs) = ap (λ (n : ℕ). weigh f (x .text) + n) (texts-carry f w xs)
-
--- what holds of no span and of the one of pending text holds of `flush`
-pub flushed : (P : List Span → Type 0) (w : Walk) → (w .text ≡ [] → P []) → ((c : ℕ) (t : List ℕ) → w .text ≡ c ∷ t → P (span false w (reverse (w .text)) ∷ [])) → P (flush w)
-unfolding flush
-flushed P w f g = go (w .text) refl
-  where
-    go : (t : List ℕ) → w .text ≡ t → P (if is-empty t then [] else span false w (reverse (w .text)) ∷ [])
-    go [] e = f e
-    go (c ∷ t) e = g c t e
-
--- what holds of what each branch of a `case` makes holds of the `case`
-pub by-case : {A B : Type 0} (P : B → Type 0) (o : Option A) {x : B} {g : A → B} → (o ≡ none → P x) → ((a : A) → o ≡ some a → P (g a)) → P (case o x g)
-by-case P none f g = f refl
-by-case P (some a) f g = g a refl
-
-pub not-empty : (s : List ℕ) → not (is-empty s) ≡ true → 1 ≤ length s
-not-empty [] e = let z : _≡_ {A = Bool} true false = cc in absurd (no z)
-  where
-    no : true ≡ false → ⊥
-    no e = let z : _≡_ {A = ℕ} 0 1 = cc in omega arith
-not-empty (c ∷ s) e = omega arith
 
 some-start : (s : List ℕ) → starts "*" s ≡ true → 1 ≤ length s
 some-start [] e = let z : _≡_ {A = ℕ} 0 1 = cc in absurd (omega arith)
@@ -150,22 +128,22 @@ module _ (f : ℕ → ℕ) (some-weight : (c : ℕ) → 1 ≤ f c) (w : Walk) wh
       star-is =
           on IsGood (starts "*" s) (λ e. toggle-good 1 (not (w .bold)) (w .italic) (some-start s e)) (λ _. toggle-good 0 (w .bold) (not (w .italic)) (omega arith))
 
-      label-good : (p : ℕ × ℕ) → Inside s p → IsGood (label (p .0) (p .1 + 1))
+      label-good : (p : ℕ × ℕ) → LinkIs s p → IsGood (label (p .0) (p .1 + 1))
       unfolding turned
       label-good p h =
           let l : List ℕ = take (p .0) s in
           let k = labels l (shorter-take (p .0) s) in
-          let m = weigh-more f (p .0) (p .1 + 1) s (omega (arith, h .label)) in
+          let m = weigh-more f (p .0) (p .1 + 1) s (omega (arith, h .order)) in
           let a = length-map (inner l) (carry w) in
           let b = texts-carry f w (inner l) in
           linked-good (map (carry w) (inner l)) (p .1 + 1) (omega (arith, h .end))
           (record { small = omega (arith, k .small); fit = omega (arith, k .fit) })
 
-      link-is : IsGood (link-step w c s)
+      linked-is : IsGood (link-step w c s)
       unfolding link-step
-      link-is = by-case IsGood (link s) (λ _. kept-step) (λ p e. label-good p (subst (LinkIn s) e (link-in s)))
+      linked-is = by-case IsGood (link s) (λ _. kept-step) (λ p e. label-good p (link-is s p e))
 
-      image-good : (p : ℕ × ℕ) → Inside (drop 1 s) p → IsGood (made [] w (p .1 + 2))
+      image-good : (p : ℕ × ℕ) → LinkIs (drop 1 s) p → IsGood (made [] w (p .1 + 2))
       unfolding turned
       image-good p h = record {
         within = omega (arith, h .end, length-drop 1 s);
@@ -174,7 +152,7 @@ module _ (f : ℕ → ℕ) (some-weight : (c : ℕ) → 1 ≤ f c) (w : Walk) wh
 
       image-is : IsGood (image-step w c s)
       unfolding image-step
-      image-is = by-case IsGood (link (drop 1 s)) (λ _. kept-step) (λ p e. image-good p (subst (LinkIn (drop 1 s)) e (link-in (drop 1 s))))
+      image-is = by-case IsGood (link (drop 1 s)) (λ _. kept-step) (λ p e. image-good p (link-is (drop 1 s) p e))
 
       escape-good : 1 ≤ length s → IsGood (made [] (push (getD s 0 0) w) 1)
       unfolding turned
@@ -188,7 +166,7 @@ module _ (f : ℕ → ℕ) (some-weight : (c : ℕ) → 1 ≤ f c) (w : Walk) wh
           on IsGood (is "\\" c && not (is-empty s)) (λ e. escape-good (not-empty s (and-true (is "\\" c) (not (is-empty s)) e .1)))
           (λ _. on IsGood (is "`" c) (λ _. code-is)
           (λ _. on IsGood (is "*" c) (λ _. star-is)
-          (λ _. on IsGood (is "[" c) (λ _. link-is)
+          (λ _. on IsGood (is "[" c) (λ _. linked-is)
           (λ _. on IsGood (is "!" c && starts "[" s) (λ _. image-is) (λ _. kept-step)))))
 
 module _ (f : ℕ → ℕ) (some-weight : (c : ℕ) → 1 ≤ f c) where

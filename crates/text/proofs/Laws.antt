@@ -51,9 +51,6 @@ pub scalars-split : (xs ys : List ℕ) → Scalars (xs ++ ys) → Scalars xs × 
 scalars-split [] ys h = (tt, h)
 scalars-split (x ∷ xs) ys h = let p = scalars-split xs ys (h .1) in ((h .0, p .0), p .1)
 
-pub scalars-take : (n : ℕ) (cs : List ℕ) → Scalars cs → Scalars (take n cs)
-scalars-take n cs h = scalars-split (take n cs) (drop n cs) (subst Scalars (sym (take-append-drop n cs)) h) .0
-
 pub scalars-drop : (n : ℕ) (cs : List ℕ) → Scalars cs → Scalars (drop n cs)
 scalars-drop n cs h = scalars-split (take n cs) (drop n cs) (subst Scalars (sym (take-append-drop n cs)) h) .1
 
