@@ -27,7 +27,7 @@ use Rattle.markdown.proofs.CommentLaws.{starts-high, starts-encode, dro
 use Rattle.markdown.proofs.RunLaws.{run-chars, same-low}
 
 -- ` · `
-abbrev dot : List ℕ
+abbrev pub dot : List ℕ
 dot = str " · "
 
 -- ---- one pass for two replacements

@@ -8,6 +8,8 @@ pub mod ShapeLaws
 pub mod FitLaws
 pub mod CellLaws
 pub mod CellFill
+pub mod Sublists
+pub mod ShowsLaws
 pub mod StoreLaws
 pub mod GrowLaws
 pub mod StateLaws

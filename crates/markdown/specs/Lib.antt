@@ -2,6 +2,8 @@
 pub mod Blocks
 pub mod Calls
 pub mod Answers
+-- What the blocks show of the Markdown.
+pub mod Shown
 -- What the contracts of the inner functions say.
 pub mod Parts
 pub mod Shape
