@@ -10,6 +10,7 @@ pub mod CellLaws
 pub mod CellFill
 pub mod Sublists
 pub mod ShowsLaws
+pub mod ReadShown
 pub mod StoreLaws
 pub mod GrowLaws
 pub mod StateLaws

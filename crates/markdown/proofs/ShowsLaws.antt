@@ -118,7 +118,7 @@ module _ (marked : Bool) where
       (rw (replaced 0 inner) (shows-more (trim-sublist (is "|") s) (cells-shows (length inner) inner (omega arith))))
 
   -- ---- a list marker, and the item behind it
-  abbrev MarkerShows : List ℕ → Option Marked → Type 0
+  abbrev pub MarkerShows : List ℕ → Option Marked → Type 0
   MarkerShows s none = Unit {0}
   MarkerShows s (some m) = Shows marked (marker (item (m .depth) (m .marker)) marked ++ m .item) s
 
