@@ -11,6 +11,7 @@ use Rattle.text.specs.Utf8.{utf8, size}
 use Rattle.records.specs.Blocks.{Span, Block, Heading, Paragraph, Item}
 use Rattle.spans.specs.Spans.{link, code-step, star-step, link-step, image-step, step, walk, spans-at, spans, flush as flush-spans}
 use Rattle.markdown.specs.Blocks.{is-rule, marker-at, list-marker, comment, cleaned, lines, replace, row, flush, heading, paragraph, continuation, read-text, read-line, read-lines, blocks}
+use Rattle.markdown.specs.Shown.{shown as shown-of}
 
 abbrev shown : Bool → String → Span
 shown italic t = record { text = str t; bold = false; italic = italic; code = false }
@@ -81,3 +82,19 @@ examples = refl
 pub depths : map blocks ((0xA0 ∷ str "- a") ∷ (0x3000 ∷ 0x3000 ∷ str "- a") ∷ []) ≡ (bullet 1 (plain "a" ∷ []) ∷ []) ∷ (bullet 3 (plain "a" ∷ []) ∷ []) ∷ []
 unfolding blocks flush read-lines read-line read-text heading paragraph continuation row replace lines cleaned comment list-marker marker-at is-rule spans spans-at walk step code-step star-step link-step image-step link flush-spans is-space take-while drop-while trim-end-matches index size utf8
 depths = refl
+
+-- what the blocks of a Markdown text show of it, without their markers and with them
+abbrev shows : List (String × String × String)
+shows =
+    ("# T\n\n- a\n  b\n12. c\n\nd\ne", "Ta bcd e", "T•a b12.cd e") ∷
+    ("+ a\n* b\n", "ab", "•a•b") ∷
+    ("| a | b|c |", "a · b · c", "a · b · c") ∷
+    ("a [b](c)<!-- d -->![e](f)\\*", "a b*", "a b*") ∷
+    []
+
+abbrev shown-both : String → List (List ℕ)
+shown-both t = let bs = blocks (str t) in shown-of false bs ∷ shown-of true bs ∷ []
+
+pub shows-hold : map (λ (r : String × String × String). shown-both (r .0)) shows ≡ map (λ (r : String × String × String). str (r .1) ∷ str (r .2) ∷ []) shows
+unfolding blocks flush read-lines read-line read-text heading paragraph continuation row replace lines cleaned comment list-marker marker-at is-rule spans spans-at walk step code-step star-step link-step image-step link flush-spans is-space take-while drop-while trim-end-matches index size utf8
+shows-hold = refl

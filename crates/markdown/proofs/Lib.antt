@@ -20,4 +20,5 @@ pub mod ReadLine
 pub mod ReadAll
 pub mod CallLaws
 pub mod Wf
+pub mod NothingInvented
 pub mod Examples

@@ -4,9 +4,9 @@
 use Prim.Native.Nat.{ℕ, min}
 use native.Mathlib.Omega.{arith}
 use mathlib.Core.Path.{_≡_, refl, sym, ap, _∙_, subst}
-use mathlib.Core.Bool.{Bool, true, false, _&&_}
-use mathlib.Core.Option.{Option, none, some}
-use mathlib.Core.List.{List, [], _∷_, _++_, reverse, reverseAux, append-assoc, append-nil, Sublistᴰ, Sublistᴰ·refl, Sublistᴰ·append, Sublistᴰ·trans}
+use mathlib.Core.Bool.{Bool, false, _&&_}
+use mathlib.Core.Option.{none, some}
+use mathlib.Core.List.{List, [], _∷_, _++_, reverseAux, append-assoc, append-nil, Sublistᴰ, Sublistᴰ·refl, Sublistᴰ·append, Sublistᴰ·trans}
 use lib.Dec.{leb}
 use lib.ListN.{length}
 use Rattle.text.specs.Words.{case, str, is, is-empty, starts, take-while, drop-while}
@@ -19,7 +19,7 @@ use Rattle.spans.proofs.ShownLaws.{joined-append, spans-from}
 use Rattle.markdown.specs.Blocks.{is-rule, list-marker, cleaned, lines, row, Reader, reader, flush, added, heading, joined, paragraph, plain-space, with-spans, continued, continuation, read-text, read-line, read-lines, blocks}
 use Rattle.markdown.specs.Shown.{marker, shown, instead, Shows}
 use Rattle.markdown.proofs.Sublists.{front-sublist, while-sublist, trim-sublist, cleaned-sublist, more-lines, all-lines, lines-sublist}
-use Rattle.markdown.proofs.ShowsLaws.{shows-all, shows-none, shows-append, shows-less, shows-more, shows-part, shows-instead, row-shows, MarkerShows, list-shows}
+use Rattle.markdown.proofs.ShowsLaws.{shows-none, shows-append, shows-less, shows-more, shows-part, shows-instead, row-shows, MarkerShows, list-shows}
 
 module _ (marked : Bool) where
   -- a block, and blocks of which the last stands first
@@ -33,8 +33,7 @@ module _ (marked : Bool) where
   back-shown : (bs cs : List Block) → back bs ++ shown marked cs ≡ shown marked (reverseAux bs cs)
   back-shown [] cs = refl
   back-shown (b ∷ bs) cs =
-      append-assoc (back bs) (entry b) (shown marked cs)
-      ∙ back-shown bs (b ∷ cs)
+      append-assoc (back bs) (entry b) (shown marked cs) ∙ back-shown bs (b ∷ cs)
 
   -- what the reader holds
   abbrev held : Reader → List ℕ
@@ -46,10 +45,13 @@ module _ (marked : Bool) where
       on (λ (bs : List Block). Sublistᴰ (back bs) (held r)) (is-empty (r .paragraph)) (λ _. front-sublist (back (r .blocks)) (r .paragraph))
       (λ _. Sublistᴰ·append (Sublistᴰ·refl (back (r .blocks))) (spans-from (r .paragraph)))
 
-  -- ---- one line, after the text s of which the reader shows what it holds and the gap before the line
+  -- ---- one line. What the reader holds is shown of the text s before it; between s and the line stands a gap, of which a space is shown where
+  -- the reader holds something for the line to go on with
+  abbrev Space : List ℕ → Type 0
+  Space gap = Shows marked (str " ") gap
+
   module _ (r : Reader) (s gap line : List ℕ) (h : Shows marked (held r) s)
-      (in-paragraph : is-empty (r .paragraph) ≡ false → Shows marked (str " ") gap)
-      (in-item : (b : Block) (bs : List Block) → r .blocks ≡ b ∷ bs → Shows marked (str " ") gap) where
+      (in-paragraph : is-empty (r .paragraph) ≡ false → Space gap) (in-item : (b : Block) (bs : List Block) → r .blocks ≡ b ∷ bs → Space gap) where
     abbrev Done : Reader → Type 0
     Done q = Shows marked (held q) (s ++ (gap ++ line))
 
@@ -69,10 +71,7 @@ module _ (marked : Bool) where
     spans-shows : (t : List ℕ) → Shows marked t line → Shows marked (span-text (spans t)) line
     spans-shows t p = shows-less marked (spans-from t) p
 
-    -- more of the last block, after a space
-    abbrev Space : Type 0
-    Space = Shows marked (str " ") gap
-
+    -- the blocks so far
     older : Shows marked (back (r .blocks)) s
     older = shows-less marked (front-sublist (back (r .blocks)) (r .paragraph)) h
 
@@ -85,8 +84,9 @@ module _ (marked : Bool) where
       heading-done =
           let title = drop-while (is "#") t in
           let inside = Sublistᴰ·trans (trim-sublist is-space title) (Sublistᴰ·trans (while-sublist (is "#") t) part) in
-          on Done (starts " " title && leb (length (take-while (is "#") t)) 6)
-          (λ _. added-done (headed (min (length (take-while (is "#") t)) 3)) (spans (trim title)) (spans-shows (trim title) (shows-part marked inside))) (λ _. ended t line-shows)
+          let level = length (take-while (is "#") t) in
+          on Done (starts " " title && leb level 6)
+          (λ _. added-done (headed (min level 3)) (spans (trim title)) (spans-shows (trim title) (shows-part marked inside))) (λ _. ended t line-shows)
 
       paragraph-done : Done (paragraph t r)
       unfolding paragraph
@@ -104,7 +104,7 @@ module _ (marked : Bool) where
 
       -- the item above with the spans of the line
       module _ (bs cs : List Block) where
-        item-done : (kind : Kind) (ss : List Span) → Shows marked (back (record { kind = kind; spans = ss } ∷ bs)) s → Space
+        item-done : (kind : Kind) (ss : List Span) → Shows marked (back (record { kind = kind; spans = ss } ∷ bs)) s → Space gap
             → case (with-spans kind ss (spans t)) none (λ c. some (c ∷ bs)) ≡ some cs → Done (reader cs [])
         item-done (headed level) ss p g e = let z : _≡_ {A = ℕ} 0 1 = cc in absurd (omega arith)
         item-done plain ss p g e = let z : _≡_ {A = ℕ} 0 1 = cc in absurd (omega arith)
@@ -150,7 +150,7 @@ module _ (marked : Bool) where
         added-done (item (m .depth) (m .marker)) (spans (m .item)) (shows-less marked (Sublistᴰ·append (Sublistᴰ·refl lead) (spans-from (m .item))) shows))))
 
   -- ---- all lines
-  space-shows : Shows marked (str " ") (10 ∷ [])
+  space-shows : Space (10 ∷ [])
   unfolding instead
   space-shows = shows-instead marked 10
 

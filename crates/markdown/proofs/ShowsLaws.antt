@@ -5,7 +5,7 @@ use native.Mathlib.Omega.{arith}
 use mathlib.Core.Path.{_≡_, refl, sym, ap, _∙_, subst}
 use mathlib.Core.Bool.{Bool, true, false, _&&_, _||_}
 use mathlib.Core.Option.{Option, none, some}
-use mathlib.Core.List.{List, [], _∷_, _++_, append-assoc, append-nil, Sublistᴰ, Sublistᴰ·slnil, Sublistᴰ·cons, Sublistᴰ·cons-cons, Sublistᴰ·refl, Sublistᴰ·append, Sublistᴰ·trans, Sublist, nil-sublist, Sublist·refl, Sublist·cons, Sublist·append, Sublist·trans}
+use mathlib.Core.List.{List, [], _∷_, _++_, append-assoc, Sublistᴰ, Sublistᴰ·slnil, Sublistᴰ·cons, Sublistᴰ·cons-cons, Sublistᴰ·refl, Sublistᴰ·append, Sublistᴰ·trans, Sublist, nil-sublist, Sublist·refl, Sublist·cons, Sublist·append, Sublist·trans}
 use borrow.Author.Tests.{eqb-true, eqb-false}
 use lib.Dec.{eqb}
 use lib.ListN.{length, drop, length-drop}
@@ -20,7 +20,7 @@ use Rattle.markdown.specs.Blocks.{Marked, marker-at, list-marker, row}
 use Rattle.markdown.specs.Cells.{cells}
 use Rattle.markdown.specs.Shown.{marker, instead, Rewritten, ends, stays, rewrites, Shows}
 use Rattle.markdown.proofs.CellLaws.{dot, replaced, cells-spaced, cells-bar, cells-kept}
-use Rattle.markdown.proofs.Sublists.{front-sublist, drop-sublist, while-sublist, trim-sublist}
+use Rattle.markdown.proofs.Sublists.{front-sublist, while-sublist, trim-sublist}
 
 module _ (marked : Bool) where
   -- ---- a text rewritten

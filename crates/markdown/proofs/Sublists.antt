@@ -2,11 +2,10 @@
 -- Assumes nothing.
 use Prim.Native.Nat.{ℕ, zero, suc}
 use mathlib.Core.Path.{_≡_, refl, sym, subst, subst₂}
-use mathlib.Core.Bool.{Bool, true, false}
+use mathlib.Core.Bool.{Bool}
 use mathlib.Core.List.{List, [], _∷_, _++_, reverse, reverse-cons, reverse-reverse, append-nil, Sublistᴰ, Sublistᴰ·slnil, Sublistᴰ·cons, Sublistᴰ·cons-cons, Sublistᴰ·nil-sublist, Sublistᴰ·refl, Sublistᴰ·append, Sublistᴰ·trans}
 use borrow.Author.Tests.{eqb-true}
 use lib.Dec.{eqb}
-use lib.ListN.{drop}
 use Rattle.text.specs.Words.{drop-while, trim-end-matches, trim-matches}
 use Rattle.text.proofs.Tests.{on, by-case}
 use Rattle.markdown.specs.Blocks.{comment, cleaned, before-lines, lines}
@@ -15,11 +14,6 @@ use Rattle.markdown.specs.Blocks.{comment, cleaned, before-lines, lines}
 pub front-sublist : (xs ys : List ℕ) → Sublistᴰ xs (xs ++ ys)
 front-sublist [] ys = Sublistᴰ·nil-sublist ys
 front-sublist (x ∷ xs) ys = Sublistᴰ·cons-cons refl (front-sublist xs ys)
-
-pub drop-sublist : (n : ℕ) (s : List ℕ) → Sublistᴰ (drop n s) s
-drop-sublist zero s = Sublistᴰ·refl s
-drop-sublist (suc n) [] = Sublistᴰ·slnil
-drop-sublist (suc n) (c ∷ s) = Sublistᴰ·cons (drop-sublist n s)
 
 pub while-sublist : (p : ℕ → Bool) (s : List ℕ) → Sublistᴰ (drop-while p s) s
 unfolding drop-while
