@@ -11,6 +11,7 @@ pub mod CellFill
 pub mod Sublists
 pub mod ShowsLaws
 pub mod ReadShown
+pub mod WithoutLaws
 pub mod StoreLaws
 pub mod GrowLaws
 pub mod StateLaws

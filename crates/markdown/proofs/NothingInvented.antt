@@ -5,7 +5,7 @@
 -- Assumes nothing.
 use Prim.Native.Nat.{ℕ}
 use mathlib.Core.Path.{_≡_}
-use mathlib.Core.Bool.{Bool, false}
+use mathlib.Core.Bool.{Bool, true, false}
 use mathlib.Core.Option.{some}
 use mathlib.Core.List.{List, [], _∷_, _++_, Sublist, Sublist·refl, Sublist·trans, sublist-append-left, sublist-append-right}
 use Rattle.text.specs.Utf8.{decode}
@@ -15,14 +15,19 @@ use Rattle.records.specs.Decode.{parsed, decode-blocks}
 use Rattle.spans.specs.Shown.{Every}
 use Rattle.markdown.specs.Blocks.{blocks}
 use Rattle.markdown.specs.Calls.{blocks-call}
-use Rattle.markdown.specs.Shown.{marker, shown, Shows}
+use Rattle.markdown.specs.Shown.{marker, shown, Shows, without}
 use Rattle.markdown.proofs.ReadShown.{blocks-shown}
+use Rattle.markdown.proofs.WithoutLaws.{shows-without}
 use Rattle.markdown.proofs.Wf.{call-decodes}
 
 pub nothing-invented : (marked : Bool) (markdown : List ℕ) → Shows marked (shown marked (blocks markdown)) markdown
 nothing-invented marked markdown = blocks-shown marked markdown
 
--- so is the text of each block by itself
+-- in one sentence: but for spaces, `·` and the bullet, all that the blocks show are characters of the Markdown in their order
+pub in-markdown : (markdown : List ℕ) → Sublist (without " ·•" (shown true (blocks markdown))) markdown
+in-markdown markdown = shows-without true (shown true (blocks markdown)) markdown (blocks-shown true markdown)
+
+-- and what is said of all blocks holds of the text of each
 pub every-block : (markdown : List ℕ) → Every (λ (b : Block). Shows false (joined (b .spans)) markdown) (blocks markdown)
 every-block markdown = let all = blocks-shown false markdown in each all (blocks markdown) (Sublist·refl (shown false (blocks markdown)))
   where

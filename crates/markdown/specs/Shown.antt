@@ -2,12 +2,13 @@
 -- what is shown.
 -- Assumes nothing.
 use Prim.Native.Nat.{ℕ}
+use Prim.Native.String.{String}
 use mathlib.Core.Bool.{Bool, true, false, _&&_}
 use mathlib.Core.List.{List, [], _∷_, _++_, Sublist}
 use Rattle.text.specs.Words.{if_then_else_, str, is, matches}
 use Rattle.records.specs.Blocks.{Kind, heading, paragraph, item, Block, joined}
 
--- the texts of the blocks one after the other, each item's after its marker
+-- the texts of the blocks one after the other, an item's with its marker before it
 abbrev pub marker : Kind → Bool → List ℕ
 marker (heading level) marked = []
 marker paragraph marked = []
@@ -32,8 +33,13 @@ pub data Rewritten (marked : Bool) : List ℕ → List ℕ → Type 0 where
   stays : {c : ℕ} {s t : List ℕ} → Rewritten marked s t → Rewritten marked (c ∷ s) (c ∷ t)
   rewrites : {c : ℕ} {s t : List ℕ} → Rewritten marked s t → Rewritten marked (c ∷ s) (instead marked c ++ t)
 
--- all that is shown are, in their order, characters of a text and of what the reader itself wrote in place of one
+-- all that is shown are characters of a text in their order, some perhaps left out, once the reader has written its own in place of some
 pub record Shows (marked : Bool) (all text : List ℕ) : Type 0 where
   pub written : List ℕ
   pub rewritten : Rewritten marked text written
   pub from : Sublist all written
+
+-- a text without the characters of a literal
+unfoldable pub without : String → List ℕ → List ℕ
+without p [] = []
+without p (c ∷ s) = let rest = without p s in if matches p c then rest else c ∷ rest
