@@ -2,7 +2,7 @@
 -- what reads labels (document 02, U11).
 -- Assumes nothing.
 use mathlib.Core.Path.{_≡_, refl, ap, _∙_, subst}
-use Prim.Native.Nat.{ℕ, zero, suc, _+_, _≤_, _<_}
+use Prim.Native.Nat.{ℕ, suc, _+_, _≤_, _<_}
 use native.Mathlib.Omega.{arith}
 use mathlib.Core.Bool.{Bool, true, false, not, _&&_}
 use mathlib.Core.Logic.{_⊎_, inl, inr}
@@ -16,7 +16,7 @@ use Rattle.records.specs.Blocks.{Span}
 use Rattle.spans.specs.Spans.{Walk, link, Step, made, label, code-step, star-step, link-step, image-step, step, carry, walk}
 use Rattle.spans.specs.Turn.{linked, turned}
 use Rattle.spans.specs.Shown.{yields-label}
-use Rattle.spans.proofs.SpanLaws.{walk-agree}
+use Rattle.spans.proofs.SpanLaws.{drop-keeps, walk-agree}
 
 -- ---- places
 
@@ -66,9 +66,7 @@ unclosed-tail c s h = go (eqb c 93 && true) (find "]" s) h
     go false (some n) e = let z : _≡_ {A = ℕ} 0 1 = cc in absurd (omega arith)
 
 pub unclosed-drop : (n : ℕ) (s : List ℕ) → Unclosed s → Unclosed (drop n s)
-unclosed-drop zero s h = h
-unclosed-drop (suc n) [] h = h
-unclosed-drop (suc n) (c ∷ s) h = unclosed-drop n s (unclosed-tail c s h)
+unclosed-drop n s h = drop-keeps Unclosed unclosed-tail n s h
 
 -- before the first `]` there is none
 before-close : (s : List ℕ) (n : ℕ) → find "]" s ≡ some n → Unclosed (take n s)
@@ -106,12 +104,11 @@ yields w c s =
 
 -- where no `]` follows, none
 pub unclosed-step : (w : Walk) (c : ℕ) (s : List ℕ) → Unclosed s → yields-label (step w c s) ≡ false
-unfolding link
 unclosed-step w c s h = go (yields w c s)
   where
     go : Yields s (step w c s) → yields-label (step w c s) ≡ false
     go (inl e) = e
-    go (inr (l, e, f)) = let none-there : link s ≡ none = rw h in let z : _≡_ {A = ℕ} 0 1 = cc in absurd (omega arith)
+    go (inr (l, e, f)) = let there = link-is s l e .close in let z : _≡_ {A = ℕ} 0 1 = cc in absurd (omega arith)
 
 -- ---- two readers of labels
 

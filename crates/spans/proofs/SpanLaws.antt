@@ -63,14 +63,15 @@ walk-next inner w c s = go (step w c s)
     go (made out v n) = ap (λ (z : List Span). out ++ z) (walk-drop inner v n s)
     go (label close n) = join (map (carry w) (inner (take close s))) n
 
+-- what holds of what is left after one character holds of what is left after n
+pub drop-keeps : (P : List ℕ → Type 0) → ((c : ℕ) (s : List ℕ) → P (c ∷ s) → P s) → (n : ℕ) (s : List ℕ) → P s → P (drop n s)
+drop-keeps P next zero s h = h
+drop-keeps P next (suc n) [] h = h
+drop-keeps P next (suc n) (c ∷ s) h = drop-keeps P next n s (next c s h)
+
 -- two readers of labels that give the same turns wherever the walk may come give the same spans
 module _ (p q : List ℕ → List Span) (Here : List ℕ → Type 0) (next : (c : ℕ) (s : List ℕ) → Here (c ∷ s) → Here s)
     (agree : (w : Walk) (c : ℕ) (s : List ℕ) → Here (c ∷ s) → turned p w s (step w c s) ≡ turned q w s (step w c s)) where
-  later : (n : ℕ) (s : List ℕ) → Here s → Here (drop n s)
-  later zero s h = h
-  later (suc n) [] h = h
-  later (suc n) (c ∷ s) h = later n s (next c s h)
-
   pub walk-agree : (f : ℕ) (s : List ℕ) → length s ≤ f → Here s → (w : Walk) → walk p w 0 s ≡ walk q w 0 s
   walk-agree zero [] k h w = walk-end p w ∙ sym (walk-end q w)
   walk-agree (suc f) [] k h w = walk-end p w ∙ sym (walk-end q w)
@@ -80,7 +81,7 @@ module _ (p q : List ℕ → List Span) (Here : List ℕ → Type 0) (next : (c 
       let rest : List ℕ = drop (t .more) s in
       walk-next p w c s
       ∙ ap (after p s) (agree w c s h)
-      ∙ ap (λ (z : List Span). t .spans ++ z) (walk-agree f rest (omega (arith, shorter-drop (t .more) s)) (later (t .more) s (next c s h)) (t .walk))
+      ∙ ap (λ (z : List Span). t .spans ++ z) (walk-agree f rest (omega (arith, shorter-drop (t .more) s)) (drop-keeps Here next (t .more) s (next c s h)) (t .walk))
       ∙ sym (walk-next q w c s)
 
 -- so do two that agree on what is shorter than the line

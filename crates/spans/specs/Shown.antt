@@ -11,6 +11,7 @@ use Rattle.spans.specs.Spans.{Step, made, label}
 abbrev pub HasText : Span → Type 0
 HasText s = s .code ≡ false → s .text ≡ [] → ⊥
 
+-- each of a list
 abbrev pub Every : {A : Type 0} → (A → Type 0) → List A → Type 0
 Every P [] = Unit {0}
 Every P (x ∷ xs) = P x × Every P xs
