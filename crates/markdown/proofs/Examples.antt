@@ -13,9 +13,17 @@ use Rattle.spans.specs.Spans.{link, code-step, star-step, link-step, image-step
 use Rattle.markdown.specs.Blocks.{is-rule, marker-at, list-marker, comment, cleaned, lines, replace, row, flush, heading, paragraph, continuation, read-text, read-line, read-lines, blocks}
 use Rattle.markdown.specs.Shown.{shown as shown-of}
 
--- `blocks`, with all that it stands on open to be computed
+-- opens what `blocks` stands on, so that it can be computed
+unfoldable line : List ℕ → List Span
+unfolding spans spans-at walk step code-step star-step link-step image-step link flush-spans
+line text = spans text
+
+unfoldable words : List ℕ → List ℕ
+unfolding row replace is-space take-while drop-while trim-end-matches index size utf8
+words text = row text
+
 unfoldable read : List ℕ → List Block
-unfolding blocks flush read-lines read-line read-text heading paragraph continuation row replace lines cleaned comment list-marker marker-at is-rule spans spans-at walk step code-step star-step link-step image-step link flush-spans is-space take-while drop-while trim-end-matches index size utf8
+unfolding blocks flush read-lines read-line read-text heading paragraph continuation lines cleaned comment list-marker marker-at is-rule line words
 read markdown = blocks markdown
 
 abbrev shown : Bool → String → Span
@@ -79,12 +87,12 @@ rows =
     ("a<!--b", text "a" ∷ []) ∷
     []
 
-examples : map (λ (r : String × List Block). read (str (r .0))) rows ≡ map (λ (r : String × List Block). r .1) rows
+pub examples : map (λ (r : String × List Block). blocks (str (r .0))) rows ≡ map (λ (r : String × List Block). r .1) rows
 unfolding read
 examples = refl
 
 -- the depth counts bytes: a no-break space has two, and an ideographic space has three
-depths : map read ((0xA0 ∷ str "- a") ∷ (0x3000 ∷ 0x3000 ∷ str "- a") ∷ []) ≡ (bullet 1 (plain "a" ∷ []) ∷ []) ∷ (bullet 3 (plain "a" ∷ []) ∷ []) ∷ []
+pub depths : map blocks ((0xA0 ∷ str "- a") ∷ (0x3000 ∷ 0x3000 ∷ str "- a") ∷ []) ≡ (bullet 1 (plain "a" ∷ []) ∷ []) ∷ (bullet 3 (plain "a" ∷ []) ∷ []) ∷ []
 unfolding read
 depths = refl
 
@@ -98,8 +106,8 @@ shows =
     []
 
 abbrev shown-both : String → List (List ℕ)
-shown-both t = let bs = read (str t) in shown-of false bs ∷ shown-of true bs ∷ []
+shown-both t = let bs = blocks (str t) in shown-of false bs ∷ shown-of true bs ∷ []
 
-shows-hold : map (λ (r : String × String × String). shown-both (r .0)) shows ≡ map (λ (r : String × String × String). str (r .1) ∷ str (r .2) ∷ []) shows
+pub shows-hold : map (λ (r : String × String × String). shown-both (r .0)) shows ≡ map (λ (r : String × String × String). str (r .1) ∷ str (r .2) ∷ []) shows
 unfolding read
 shows-hold = refl

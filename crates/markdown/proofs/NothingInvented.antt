@@ -29,17 +29,17 @@ in-markdown markdown = shows-without true (shown true (blocks markdown)) markdow
 
 -- and what is said of all blocks holds of the text of each
 pub every-block : (markdown : List ℕ) → Every (λ (b : Block). Shows false (joined (b .spans)) markdown) (blocks markdown)
-every-block markdown = let all = blocks-shown false markdown in each all (blocks markdown) (Sublist·refl (shown false (blocks markdown)))
+every-block markdown = let whole = blocks-shown false markdown in each whole (blocks markdown) (Sublist·refl (shown false (blocks markdown)))
   where
     each : Shows false (shown false (blocks markdown)) markdown → (bs : List Block) → Sublist (shown false bs) (shown false (blocks markdown))
         → Every (λ (b : Block). Shows false (joined (b .spans)) markdown) bs
-    each all [] h = tt
-    each all (b ∷ bs) h =
+    each whole [] h = tt
+    each whole (b ∷ bs) h =
         let lead = marker (b .kind) false in
         let text = joined (b .spans) in
         let mine : Sublist text (shown false (b ∷ bs)) = Sublist·trans (sublist-append-right lead text) (sublist-append-left (lead ++ text) (shown false bs)) in (
-          record { written = all .written; rewritten = all .rewritten; from = Sublist·trans mine (Sublist·trans h (all .from)) },
-          each all bs (Sublist·trans (sublist-append-right (lead ++ text) (shown false bs)) h),
+          record { written = whole .written; rewritten = whole .rewritten; from = Sublist·trans mine (Sublist·trans h (whole .from)) },
+          each whole bs (Sublist·trans (sublist-append-right (lead ++ text) (shown false bs)) h),
         )
 
 -- The records that the call wrote decode to blocks that show nothing else than that of the Markdown

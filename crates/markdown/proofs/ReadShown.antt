@@ -14,9 +14,11 @@ use Rattle.text.specs.Chars.{is-space}
 use Rattle.text.specs.Trim.{trim}
 use Rattle.text.proofs.Tests.{on, by-case, true-false}
 use Rattle.records.specs.Blocks.{Span, Kind, heading as headed, paragraph as plain, item, Block, Item, joined as span-text}
+use Rattle.records.proofs.FormatLaws.{joined-append}
 use Rattle.spans.specs.Spans.{spans}
-use Rattle.spans.proofs.ShownLaws.{joined-append, spans-from}
-use Rattle.markdown.specs.Blocks.{is-rule, list-marker, cleaned, lines, row, Reader, reader, flush, added, heading, joined, paragraph, plain-space, with-spans, continued, continuation, read-text, read-line, read-lines, blocks}
+use Rattle.spans.proofs.ShownLaws.{spans-from}
+use Rattle.markdown.specs.Blocks.{is-rule, list-marker, cleaned, lines, row, Reader, reader, flush, added, heading, joined, paragraph, plain-space, with-spans, continued}
+use Rattle.markdown.specs.Blocks.{continuation, read-text, read-line, read-lines, blocks}
 use Rattle.markdown.specs.Shown.{marker, shown, instead, Shows}
 use Rattle.markdown.proofs.Sublists.{front-sublist, while-sublist, trim-sublist, cleaned-sublist, more-lines, all-lines, lines-sublist}
 use Rattle.markdown.proofs.ShowsLaws.{shows-none, shows-append, shows-less, shows-more, shows-part, shows-instead, row-shows, MarkerShows, list-shows}

@@ -5,7 +5,8 @@ use native.Mathlib.Omega.{arith}
 use mathlib.Core.Path.{_≡_, refl, sym, ap, _∙_, subst}
 use mathlib.Core.Bool.{Bool, true, false, _&&_, _||_}
 use mathlib.Core.Option.{Option, none, some}
-use mathlib.Core.List.{List, [], _∷_, _++_, append-assoc, Sublistᴰ, Sublistᴰ·slnil, Sublistᴰ·cons, Sublistᴰ·cons-cons, Sublistᴰ·refl, Sublistᴰ·append, Sublistᴰ·trans, Sublist, nil-sublist, Sublist·refl, Sublist·cons, Sublist·append, Sublist·trans}
+use mathlib.Core.List.{List, [], _∷_, _++_, append-assoc, Sublistᴰ, Sublistᴰ·slnil, Sublistᴰ·cons, Sublistᴰ·cons-cons, Sublistᴰ·refl, Sublistᴰ·append, Sublistᴰ·trans}
+use mathlib.Core.List.{Sublist, nil-sublist, Sublist·refl, Sublist·cons, Sublist·append, Sublist·trans}
 use borrow.Author.Tests.{eqb-true, eqb-false}
 use lib.Dec.{eqb}
 use lib.ListN.{length, drop, length-drop}
@@ -59,7 +60,7 @@ module _ (marked : Bool) where
       }
 
   -- ---- what is shown of a text
-  pub shows-all : (s : List ℕ) → Shows marked s s
+  shows-all : (s : List ℕ) → Shows marked s s
   shows-all s = record { written = s; rewritten = all-stays s; from = Sublist·refl s }
 
   pub shows-none : (s : List ℕ) → Shows marked [] s

@@ -26,7 +26,8 @@ use Rattle.records.proofs.RoundTrip.{records-give-back}
 use Rattle.spans.specs.Spans.{spans}
 use Rattle.spans.proofs.Bounds.{spans-few}
 use Rattle.spans.proofs.Wf.{spans-wf}
-use Rattle.markdown.specs.Blocks.{is-rule, list-marker, cleaned, lines, row, Reader, reader, flush, added, heading, joined, paragraph, plain-space, with-spans, continued, continuation, read-text, read-line, read-lines, blocks}
+use Rattle.markdown.specs.Blocks.{is-rule, list-marker, cleaned, lines, row, Reader, reader, flush, added, heading, joined, paragraph, plain-space, with-spans, continued}
+use Rattle.markdown.specs.Blocks.{continuation, read-text, read-line, read-lines, blocks}
 use Rattle.markdown.specs.Calls.{recorded, with-buffers, blocks-call}
 use Rattle.markdown.proofs.FitLaws.{Fits, wider, while-fits, trim-fits, hash-first, cleaned-fits, row-fits, total, AllScalars, lines-held, Known, KnownIn, line-known}
 

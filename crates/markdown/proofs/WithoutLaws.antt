@@ -58,6 +58,6 @@ rewritten-sublist {marked = marked} (rewrites {c = c} {s = s} {t = t} r) =
     subst (λ (l : List ℕ). Sublistᴰ l (c ∷ s)) (sym (without-append " ·•" (instead marked c) t))
     (Sublistᴰ·append (instead-sublist marked c) (rewritten-sublist r))
 
-pub shows-without : (marked : Bool) (all text : List ℕ) → Shows marked all text → Sublist (without " ·•" all) text
-shows-without marked all text p =
-    ∥∥₁-map {B = Sublistᴰ (without " ·•" all) text} (p .from) (λ d. Sublistᴰ·trans (without-sublist " ·•" d) (rewritten-sublist (p .rewritten)))
+pub shows-without : (marked : Bool) (seen text : List ℕ) → Shows marked seen text → Sublist (without " ·•" seen) text
+shows-without marked seen text p =
+    ∥∥₁-map {B = Sublistᴰ (without " ·•" seen) text} (p .from) (λ d. Sublistᴰ·trans (without-sublist " ·•" d) (rewritten-sublist (p .rewritten)))

@@ -33,11 +33,11 @@ pub data Rewritten (marked : Bool) : List ℕ → List ℕ → Type 0 where
   stays : {c : ℕ} {s t : List ℕ} → Rewritten marked s t → Rewritten marked (c ∷ s) (c ∷ t)
   rewrites : {c : ℕ} {s t : List ℕ} → Rewritten marked s t → Rewritten marked (c ∷ s) (instead marked c ++ t)
 
--- all that is shown are characters of a text in their order, some perhaps left out, once the reader has written its own in place of some
-pub record Shows (marked : Bool) (all text : List ℕ) : Type 0 where
+-- what is seen are characters of a text in their order, some perhaps left out, once the reader has written its own in place of some
+pub record Shows (marked : Bool) (seen text : List ℕ) : Type 0 where
   pub written : List ℕ
   pub rewritten : Rewritten marked text written
-  pub from : Sublist all written
+  pub from : Sublist seen written
 
 -- a text without the characters of a literal
 unfoldable pub without : String → List ℕ → List ℕ

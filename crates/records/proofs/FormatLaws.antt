@@ -1,4 +1,4 @@
--- The records of lists put together, and a span's record by the characters of its text.
+-- Lists put together, their joined texts and their records; and a span's record by the characters of its text.
 -- Assumes nothing.
 use Prim.Native.Nat.{ℕ, _+_, _≤_}
 use native.Mathlib.Omega.{arith}
@@ -8,8 +8,12 @@ use mathlib.Core.List.{List, [], _∷_, _++_, append-assoc}
 use lib.ListN.{length}
 use Rattle.text.specs.Utf8.{encode, size}
 use Rattle.text.proofs.Laws.{utf8-size, size-encode}
-use Rattle.records.specs.Blocks.{Span, Block}
+use Rattle.records.specs.Blocks.{Span, joined, Block}
 use Rattle.records.specs.Format.{le32, non-empty, span-map, text-form, encode-span, encode-spans, encode-block, encode-blocks}
+
+pub joined-append : (xs ys : List Span) → joined (xs ++ ys) ≡ joined xs ++ joined ys
+joined-append [] ys = refl
+joined-append (x ∷ xs) ys = ap (λ (l : List ℕ). x .text ++ l) (joined-append xs ys) ∙ sym (append-assoc (x .text) (joined xs) (joined ys))
 
 pub spans-append : (xs ys : List Span) → encode-spans (xs ++ ys) ≡ encode-spans xs ++ encode-spans ys
 unfolding encode-spans

@@ -5,12 +5,14 @@ use mathlib.Core.Path.{_≡_, refl, sym, ap, _∙_, subst}
 use Prim.Native.Nat.{ℕ, zero, suc, _+_, _≤_}
 use native.Mathlib.Omega.{arith}
 use mathlib.Core.Bool.{Bool, true, false, not, _&&_, true≢false}
-use mathlib.Core.List.{List, [], _∷_, _++_, map, reverse, reverse-cons, append-assoc, append-nil, Sublistᴰ, Sublistᴰ·slnil, Sublistᴰ·cons, Sublistᴰ·cons-cons, Sublistᴰ·nil-sublist, Sublistᴰ·refl, Sublistᴰ·append, Sublistᴰ·trans}
+use mathlib.Core.List.{List, [], _∷_, _++_, map, reverse, reverse-cons, append-assoc, append-nil, Sublistᴰ, Sublistᴰ·slnil, Sublistᴰ·cons, Sublistᴰ·cons-cons}
+use mathlib.Core.List.{Sublistᴰ·nil-sublist, Sublistᴰ·refl, Sublistᴰ·append, Sublistᴰ·trans}
 use lib.ListN.{length, take, drop, getD, length-reverse, take-append-drop}
 use borrow.Author.Tests.{eqb-false, ne-eqb}
 use Rattle.text.specs.Words.{is, matches, any, is-empty, starts, find}
 use Rattle.text.proofs.Tests.{on, by-case, and-true, or-neither}
 use Rattle.records.specs.Blocks.{Span, joined}
+use Rattle.records.proofs.FormatLaws.{joined-append}
 use Rattle.spans.specs.Spans.{Walk, at, push, cleared, span, flush, link, Step, made, label, kept, code-step, star-step, link-step, image-step, step, carry, walk, spans}
 use Rattle.spans.specs.Turn.{Turn, turn, linked, turned}
 use Rattle.spans.specs.Shown.{HasText, Every}
@@ -18,10 +20,6 @@ use Rattle.spans.proofs.SpanLaws.{shorter-drop, shorter-take, flushed, 
 use Rattle.spans.proofs.LinkLaws.{LinkIs, link-is}
 
 -- ---- joined texts, and what holds of every span
-
-pub joined-append : (xs ys : List Span) → joined (xs ++ ys) ≡ joined xs ++ joined ys
-joined-append [] ys = refl
-joined-append (x ∷ xs) ys = ap (λ (l : List ℕ). x .text ++ l) (joined-append xs ys) ∙ sym (append-assoc (x .text) (joined xs) (joined ys))
 
 joined-carry : (w : Walk) (ss : List Span) → joined (map (carry w) ss) ≡ joined ss
 joined-carry w [] = refl
@@ -36,11 +34,11 @@ every-carry w [] h = tt
 every-carry w (s ∷ ss) h = (h .0, every-carry w ss (h .1))
 
 -- a shorter front part is in a longer one
-front-sublist : (s : List ℕ) (m n : ℕ) → m ≤ n → Sublistᴰ (take m s) (take n s)
-front-sublist s zero n h = Sublistᴰ·nil-sublist (take n s)
-front-sublist s (suc m) zero h = absurd (omega arith)
-front-sublist [] (suc m) (suc n) h = Sublistᴰ·slnil
-front-sublist (c ∷ s) (suc m) (suc n) h = Sublistᴰ·cons-cons refl (front-sublist s m n (omega arith))
+take-sublist : (s : List ℕ) (m n : ℕ) → m ≤ n → Sublistᴰ (take m s) (take n s)
+take-sublist s zero n h = Sublistᴰ·nil-sublist (take n s)
+take-sublist s (suc m) zero h = absurd (omega arith)
+take-sublist [] (suc m) (suc n) h = Sublistᴰ·slnil
+take-sublist (c ∷ s) (suc m) (suc n) h = Sublistᴰ·cons-cons refl (take-sublist s m n (omega arith))
 
 -- pending text is shown whole, and makes a span only where there is some
 flush-joined : (w : Walk) → joined (flush w) ≡ reverse (w .text)
@@ -107,7 +105,7 @@ module _ (w : Walk) (c : ℕ) (s : List ℕ) where
     code-fine =
         by-case Fine (find "`" s) (λ _. kept-shows)
         (λ n e. ended-shows (span true w (take n s) ∷ []) (n + 1)
-        (rw (append-nil (take n s)) (front-sublist s n (n + 1) (omega arith)))
+        (rw (append-nil (take n s)) (take-sublist s n (n + 1) (omega arith)))
         (λ f _. true≢false f, tt))
 
     star-fine : Fine (star-step w s)
@@ -120,7 +118,7 @@ module _ (w : Walk) (c : ℕ) (s : List ℕ) where
         let l : List ℕ = take (p .0) s in
         let k = labels l (shorter-take (p .0) s) in
         linked-shows (map (carry w) (inner l)) (p .1 + 1)
-        (rw (joined-carry w (inner l), k .same) (Sublistᴰ·trans (k .from) (front-sublist s (p .0) (p .1 + 1) (omega (arith, h .order)))))
+        (rw (joined-carry w (inner l), k .same) (Sublistᴰ·trans (k .from) (take-sublist s (p .0) (p .1 + 1) (omega (arith, h .order)))))
         (every-carry w (inner l) (k .texts))
 
     link-fine : Fine (link-step w c s)
