@@ -10,6 +10,7 @@ use Rattle.markdown.specs.declared.Answer as MA
 use Rattle.markdown.specs.Answers as M
 use Rattle.records.specs.Format.{bit}
 use Rattle.walker.specs.Answers.{Answer, at-end, refused, gives, BlockValues, Emphasis}
+use Rattle.walker.specs.Places.{SpanValues}
 use Rattle.walker.specs.declared.Range.{Range}
 use Rattle.sheet.specs.Calls as S
 use Rattle.sheet.specs.Calls.{no-utf8, no-sheet, yes-sheet}
@@ -19,6 +20,7 @@ use Rattle.capi.specs.declared.SpanAt.{SpanAt}
 use Rattle.capi.specs.declared.FirstAt.{FirstAt}
 use Rattle.capi.specs.declared.HereAt.{HereAt}
 use Rattle.capi.specs.declared.Part.{Part}
+use Rattle.capi.specs.declared.SectionAt.{SectionAt}
 use Rattle.capi.specs.declared.Tested.{Tested}
 
 abbrev pub written-of : ℕ → ℕ → Written
@@ -65,15 +67,29 @@ first-struct at-end = record { number = 0; at = 0 }
 first-struct (refused n) = record { number = n; at = 0 }
 first-struct (gives at) = record { number = 0; at = at }
 
-abbrev pub here-struct : Answer (Emphasis × Range) → HereAt
-here-struct at-end = record { number = 0; bold = 0; italic = 0; code = 0; start = 0; length = 0 }
-here-struct (refused n) = record { number = n; bold = 0; italic = 0; code = 0; start = 0; length = 0 }
+abbrev pub here-struct : Answer SpanValues → HereAt
+here-struct at-end = record { number = 0; bold = 0; italic = 0; code = 0; start = 0; length = 0; next = 0 }
+here-struct (refused n) = record { number = n; bold = 0; italic = 0; code = 0; start = 0; length = 0; next = 0 }
 here-struct (gives v) =
-    record { number = 0; bold = flag (v .0 .bold); italic = flag (v .0 .italic); code = flag (v .0 .code); start = v .1 .start; length = v .1 .end - v .1 .start }
+    record {
+      number = 0;
+      bold = flag (v .emphasis .bold);
+      italic = flag (v .emphasis .italic);
+      code = flag (v .emphasis .code);
+      start = v .text .start;
+      length = v .text .end - v .text .start;
+      next = v .next;
+    }
 
 -- a part by its length
 abbrev pub part-struct : Range → Part
 part-struct r = record { start = r .start; length = r .end - r .start }
+
+abbrev pub section-struct : Answer (Option Range) → SectionAt
+section-struct at-end = record { number = 0; found = 0; start = 0; length = 0 }
+section-struct (refused n) = record { number = n; found = 0; start = 0; length = 0 }
+section-struct (gives none) = record { number = 0; found = 0; start = 0; length = 0 }
+section-struct (gives (some r)) = record { number = 0; found = 1; start = r .start; length = r .end - r .start }
 
 abbrev pub sheet-struct : S.Tested → Tested
 sheet-struct no-utf8 = record { number = 1; yes = 0; bytes = 0; characters = 0 }

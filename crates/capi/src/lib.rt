@@ -8,7 +8,10 @@ ghost use Rattle.html.specs.Calls.{html-to-markdown-call};
 ghost use Rattle.text.specs.Outcome.{result-after, work-kept};
 ghost use Rattle.markdown.specs.Calls.{blocks-call};
 ghost use Rattle.sheet.specs.Calls.{sheet-call};
-ghost use Rattle.capi.specs.Values.{flag, written-of, page-struct, markdown-struct, written-struct, block-of, block-struct, span-struct, first-struct, here-struct, part-struct, sheet-struct};
+ghost use Rattle.sections.specs.Calls.{section-answer};
+ghost use Rattle.capi.specs.Values.{flag, written-of, page-struct, markdown-struct, written-struct, sheet-struct};
+ghost use Rattle.capi.specs.Values.{block-of, block-struct, span-struct, first-struct, here-struct, part-struct, section-struct};
+use sections::SectionAnswer;
 use sheet::Verdict;
 use walker::BlockAnswer;
 use walker::FirstAnswer;
@@ -102,7 +105,7 @@ pub struct FirstAt {
     pub at: usize,
 }
 
-// A span by its own offset: its emphasis, and its text. The next span stands at start + length.
+// A span by its own offset: its emphasis, its text, and where the next span stands.
 #[repr(C)]
 pub struct HereAt {
     pub number: u32,
@@ -111,11 +114,21 @@ pub struct HereAt {
     pub code: u32,
     pub start: usize,
     pub length: usize,
+    pub next: usize,
 }
 
 // A part of the records.
 #[repr(C)]
 pub struct Part {
+    pub start: usize,
+    pub length: usize,
+}
+
+// A section, a part of the records: found is 1, or 0 where no heading has the title.
+#[repr(C)]
+pub struct SectionAt {
+    pub number: u32,
+    pub found: u32,
     pub start: usize,
     pub length: usize,
 }
@@ -241,6 +254,7 @@ pub extern "C" fn rn_here_at(records: &[u8], at: usize) -> HereAt
             code,
             start,
             end,
+            next,
         } => HereAt {
             number: 0,
             bold: flag(bold),
@@ -248,12 +262,43 @@ pub extern "C" fn rn_here_at(records: &[u8], at: usize) -> HereAt
             code: flag(code),
             start,
             length: end - start,
+            next,
         },
         HereAnswer::Bad => HereAt {
             number: 7,
             bold: 0,
             italic: 0,
             code: 0,
+            start: 0,
+            length: 0,
+            next: 0,
+        },
+    }
+}
+
+#[no_mangle]
+pub extern "C" fn rn_section_at(records: &[u8], title: &[u8]) -> SectionAt
+    ensures { λ r. ⌜ r ≡ section-struct (section-answer (now (records .entry)) (now (title .entry))) ⌝ }
+{
+    match sections::section_at(records, title) {
+        SectionAnswer::At { start, end } => {
+            let length = end - start;
+            SectionAt {
+                number: 0,
+                found: 1,
+                start,
+                length,
+            }
+        }
+        SectionAnswer::Missing => SectionAt {
+            number: 0,
+            found: 0,
+            start: 0,
+            length: 0,
+        },
+        SectionAnswer::Bad => SectionAt {
+            number: 7,
+            found: 0,
             start: 0,
             length: 0,
         },

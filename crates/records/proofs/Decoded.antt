@@ -67,7 +67,7 @@ u16-inv (a ∷ b ∷ s) {n} {r} h w =
     let y : b ≡ n / 256 % 256 = rw q (omega arith) in
     record { same = cc; good = omega arith; left = rw e at (w .1 .1) }
 
-bytes-drop : (n : ℕ) (s : List ℕ) → Bytes s → Bytes (drop n s)
+pub bytes-drop : (n : ℕ) (s : List ℕ) → Bytes s → Bytes (drop n s)
 bytes-drop zero s w = w
 bytes-drop (suc n) [] w = w
 bytes-drop (suc n) (a ∷ s) w = bytes-drop n s (w .1)

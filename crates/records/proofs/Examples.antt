@@ -10,7 +10,20 @@ use Rattle.text.specs.Chars.{is-scalar}
 use Rattle.text.specs.Utf8.{utf8, size, char-of, char, starts3, starts4, scan, chars, is-utf8}
 use Rattle.records.specs.Blocks.{Span, Block, Heading, Paragraph, Item}
 use Rattle.records.specs.Format.{encode-span, encode-spans, encode-block, encode-blocks, is-marker}
-use Rattle.records.specs.Decode.{parsed, u16, u32, part, text-at, span-at, spans-at, level-at, marker-at, item-at, kind-at, count-at, head-at, block-at, blocks-at, decode-blocks}
+use Rattle.records.specs.Decode.{Parse, parsed, u16, u32, part, text-at, span-at, spans-at, level-at, marker-at, item-at, kind-at, count-at, head-at, block-at, blocks-at, decode-blocks}
+
+-- a text, a block and all blocks as they are decoded, with all that this stands on open to be computed
+unfoldable text-opened : List ℕ → Parse (List ℕ)
+unfolding text-at u32 part is-utf8 chars scan char char-of starts3 starts4 is-scalar
+text-opened s = text-at s
+
+unfoldable pub block-opened : List ℕ → Parse Block
+unfolding block-at head-at kind-at level-at marker-at item-at count-at u16 spans-at span-at is-marker text-opened
+block-opened s = block-at s
+
+unfoldable pub blocks-opened : List ℕ → Parse (List Block)
+unfolding decode-blocks blocks-at block-opened
+blocks-opened s = decode-blocks s
 
 abbrev plain : String → Span
 plain t = record { text = str t; bold = false; italic = false; code = false }
@@ -48,5 +61,5 @@ pub decoded : (decode-blocks titled ≡ parsed (Heading 1 (plain "T" ∷ []) ∷
     × (decode-blocks (titled ++ ticks) ≡ parsed (Heading 1 (plain "T" ∷ []) ∷ Paragraph ((record { text = []; bold = false; italic = false; code = true }) ∷ []) ∷ []) [])
     × (decode-blocks itemized ≡ parsed items [])
     × (decode-blocks [] ≡ parsed [] [])
-unfolding decode-blocks blocks-at block-at head-at kind-at level-at marker-at item-at count-at u16 u32 spans-at span-at text-at part is-marker is-utf8 chars scan char char-of starts3 starts4 is-scalar
+unfolding blocks-opened
 decoded = (refl, refl, refl, refl)

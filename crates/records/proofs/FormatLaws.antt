@@ -9,7 +9,7 @@ use lib.ListN.{length}
 use Rattle.text.specs.Utf8.{encode, size}
 use Rattle.text.proofs.Laws.{utf8-size, size-encode}
 use Rattle.records.specs.Blocks.{Span, joined, Block}
-use Rattle.records.specs.Format.{le32, non-empty, span-map, text-form, encode-span, encode-spans, encode-block, encode-blocks}
+use Rattle.records.specs.Format.{le32, non-empty, span-map, text-form, encode-span, encode-spans, encode-block, encode-blocks, WfBlocks}
 
 pub joined-append : (xs ys : List Span) → joined (xs ++ ys) ≡ joined xs ++ joined ys
 joined-append [] ys = refl
@@ -28,6 +28,11 @@ blocks-append [] cs = refl
 blocks-append (b ∷ bs) cs =
     ap (λ (l : List ℕ). encode-block b ++ l) (blocks-append bs cs)
     ∙ sym (append-assoc (encode-block b) (encode-blocks bs) (encode-blocks cs))
+
+-- both parts of a list that has a record have one
+pub wf-split : (bs cs : List Block) → WfBlocks (bs ++ cs) → WfBlocks bs × WfBlocks cs
+wf-split [] cs w = (tt, w)
+wf-split (b ∷ bs) cs w = let (v, u) = wf-split bs cs (w .1) in ((w .0, v), u)
 
 pub form-long : (bs : List ℕ) → length (text-form bs) ≤ 4 + length bs
 form-long [] = omega arith

@@ -4,5 +4,6 @@ pub mod Encoded
 pub mod EncodedBytes
 pub mod Decoded
 pub mod RoundTrip
+pub mod DecodeSteps
 pub mod Stores
 pub mod Examples

@@ -26,7 +26,7 @@ record-iff s b r w =
     (λ h. let x = decoded-is-record s h w in (x .1, x .0), λ h. ap block-at (h .1) ∙ record-decodes b r (h .0))
 
 -- ---- whole strings
-block-some : (b : Block) → 1 ≤ length (encode-block b)
+pub block-some : (b : Block) → 1 ≤ length (encode-block b)
 unfolding encode-block
 block-some b = omega arith
 

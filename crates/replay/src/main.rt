@@ -1,11 +1,12 @@
 // Replays stored answers, read from standard input, and says how many differ. A case is the letter of what is replayed (P a page, M Markdown,
-// S a page and the sheet test), four length bytes of the input, four of the answer, the input and the answer; FFFFFF00 + n in place of the
-// answer's length is refusal n.
+// S a page and the sheet test, T a title and records), four length bytes of the input, four of the answer, the input and the answer;
+// FFFFFF00 + n in place of the answer's length is refusal n.
 ghost use Prim.Native.Nat.{_≤_};
 
 mod blocks;
 mod pages;
 mod sheets;
+mod titles;
 
 use libc::STDIN_FILENO;
 use libc::STDOUT_FILENO;
@@ -44,6 +45,7 @@ fn holds(rest: &[u8], letter: u8) -> bool {
     match letter {
         b'P' => pages::agrees(input, want, answer),
         b'M' => blocks::agrees(input, want, answer),
+        b'T' => titles::agrees(input, want, answer),
         _ => sheets::agrees(input, want, answer),
     }
 }
@@ -96,4 +98,5 @@ fn main() {
     say(b"pages: ", replayed(data, b'P'));
     say(b"Markdown: ", replayed(data, b'M'));
     say(b"sheets: ", replayed(data, b'S'));
+    say(b"sections: ", replayed(data, b'T'));
 }

@@ -4,9 +4,13 @@ pub mod Placed
 pub mod Spans
 pub mod Heads
 pub mod Blocks
+pub mod RangeLaws
 pub mod WalkerLaws
 pub mod PlaceLaws
 pub mod NumberLaws
 pub mod Walked
+pub mod Decoded
+pub mod WalkTheorems
+pub mod SpanSteps
 pub mod Held
 pub mod Examples

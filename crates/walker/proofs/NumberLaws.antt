@@ -4,12 +4,12 @@ use Prim.Native.Nat.{ℕ}
 use mathlib.Core.Path.{_≡_, refl, sym, ap, _∙_}
 use mathlib.Core.Option.{Option, none, some}
 use Rattle.walker.specs.Answers.{Answer, at-end, refused, gives, BlockValues, Emphasis}
+use Rattle.walker.specs.Places.{SpanValues}
 use Rattle.walker.specs.Numbers.{block-values, span-values, first-values, here-values}
 use Rattle.walker.specs.declared.BlockAnswer.{BlockAnswer}
 use Rattle.walker.specs.declared.BlockAnswer.the-variants as B
 use Rattle.walker.specs.declared.SpanAnswer.{SpanAnswer}
 use Rattle.walker.specs.declared.SpanAnswer.the-variants as S
-use Rattle.walker.specs.declared.Range.{Range}
 use Rattle.walker.specs.declared.FirstAnswer.{FirstAnswer}
 use Rattle.walker.specs.declared.FirstAnswer.the-variants as F
 use Rattle.walker.specs.declared.HereAnswer.{HereAnswer}
@@ -64,14 +64,14 @@ first-back F.Bad = refl
 pub first-values-one : (q r : FirstAnswer) → first-values q ≡ first-values r → q ≡ r
 first-values-one q r e = sym (first-back q) ∙ ap first-case e ∙ first-back r
 
-here-case : Answer (Emphasis × Range) → HereAnswer
+here-case : Answer SpanValues → HereAnswer
 here-case at-end = H.Bad
 here-case (refused n) = H.Bad
-here-case (gives v) = H.Span (v .0 .bold) (v .0 .italic) (v .0 .code) (v .1 .start) (v .1 .end)
+here-case (gives v) = H.Span (v .emphasis .bold) (v .emphasis .italic) (v .emphasis .code) (v .text .start) (v .text .end) (v .next)
 
 here-back : (r : HereAnswer) → here-case (here-values r) ≡ r
 unfolding here-case
-here-back (H.Span b i c start end) = refl
+here-back (H.Span b i c start end next) = refl
 here-back H.Bad = refl
 
 pub here-values-one : (q r : HereAnswer) → here-values q ≡ here-values r → q ≡ r

@@ -10,16 +10,21 @@ use borrow.Author.Tests.{ne-eqb}
 use Rattle.records.specs.Blocks.{Block}
 use Rattle.records.specs.Format.{encode-block, encode-blocks, WfBlock, WfBlocks}
 use Rattle.records.specs.Decode.{failed, block-at}
-use Rattle.walker.specs.Answers.{gives, found-at, block-answer, marker-answer, span-in, span-answer, text-answer}
+use Rattle.walker.specs.Answers.{refused, gives, found-at, block-answer, marker-answer, span-in, span-answer, text-answer}
 use Rattle.walker.specs.Walk.{Shows, Ends, Refuses, Walk}
 use Rattle.records.proofs.Encoded.{block-at-of}
-use Rattle.walker.proofs.WalkerLaws.{nothing-there, found-end, found-none}
+use Rattle.records.proofs.DecodeSteps.{nothing-there}
+use Rattle.walker.proofs.WalkerLaws.{found-end, found-none}
 
 -- the answers, where it is known what stands at the offset
 module _ (s : List ℕ) (at : ℕ) where
-  shows : (b : Block) (next : ℕ) → found-at s at ≡ gives (b, next) → Shows s at b next
+  pub shows : (b : Block) (next : ℕ) → found-at s at ≡ gives (b, next) → Shows s at b next
   unfolding block-answer marker-answer span-answer text-answer span-in
   shows b next e = record { values = rw e; marker = rw e; emphasis = λ n. rw e; text = λ n. rw e }
+
+  pub refuses : found-at s at ≡ refused 7 → Refuses s at
+  unfolding block-answer marker-answer span-answer text-answer span-in
+  refuses e = record { values = rw e; marker = rw e; emphasis = λ n. rw e; text = λ n. rw e }
 
   -- at the length the end is answered, for a span number too
   pub at-the-end : at ≡ length s → Ends s at
@@ -30,10 +35,7 @@ module _ (s : List ℕ) (at : ℕ) where
 
   -- where no block stands, 7
   pub no-block : (at ≡ length s → ⊥) → block-at (drop at s) ≡ failed → Refuses s at
-  unfolding block-answer marker-answer span-answer text-answer span-in
-  no-block h f =
-      let e = found-none s at h f in
-      record { values = rw e; marker = rw e; emphasis = λ n. rw e; text = λ n. rw e }
+  no-block h f = refuses (found-none s at h f)
 
   -- and past the end
   pub past-the-end : length s < at → Refuses s at

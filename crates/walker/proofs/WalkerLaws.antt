@@ -15,7 +15,7 @@ use Rattle.text.specs.Utf8.{size, chars}
 use Rattle.text.proofs.Tests.{on}
 use Rattle.records.specs.Blocks.{Span, Kind, Block}
 use Rattle.records.specs.Format.{encode-span, encode-spans}
-use Rattle.records.specs.Decode.{failed, parsed, span-at, spans-at, head-at, block-at}
+use Rattle.records.specs.Decode.{failed, parsed, span-at, spans-at, block-at}
 use Rattle.walker.specs.Answers.{Answer, at-end, refused, gives, map, level-of, depth-of, emphasis-of, found-at, block-answer, nth, span-in, span-answer}
 use Rattle.walker.specs.Places.{nowhere, range-or-none, marker-from, marker-range, marker-place, span-from, text-range, text-place, first-answer, here-answer}
 use Rattle.text.specs.Part.{between, Inside}
@@ -34,14 +34,9 @@ use Rattle.walker.proofs.reader.Kind
 use Rattle.walker.proofs.Spans.{rest-next, between-size}
 use Rattle.walker.proofs.Placed.{After, after-length, then-after, span-ends, spans-after}
 use Rattle.records.proofs.Decoded.{not-failed, then-inv}
+use Rattle.records.proofs.DecodeSteps.{nothing-there}
 use Rattle.walker.proofs.Blocks.{spans-count}
-
-pub nothing-there : block-at [] ≡ failed
-unfolding block-at head-at
-nothing-there = refl
-
-two-ends : {a b c d : ℕ} → a ≡ b → c ≡ d → _≡_ {A = Range} (record { start = a; end = c }) (record { start = b; end = d })
-two-ends p q = rw (p, q)
+use Rattle.walker.proofs.RangeLaws.{two-ends}
 
 text-range-is : (s : List ℕ) {start end e : ℕ} → Inside s start end → e ≡ end
     → text-range e (chars (between s start end)) ≡ record { start = start; end = end }
@@ -124,13 +119,13 @@ module _ (s : List ℕ) (at : ℕ) where
     here-bad e = rw (w .read, e)
 
     pub here-is : {b i c : Bool} {start end : ℕ} → r ≡ S.At b i c start end
-        → gives (record { bold = b; italic = i; code = c }, record { start = start; end = end }) ≡ here-answer s at
+        → gives (record { emphasis = record { bold = b; italic = i; code = c }; text = record { start = start; end = end }; next = end }) ≡ here-answer s at
     unfolding here-answer
     here-is {start = start} {end = end} e =
         let p : Inside s start end = subst (span-placed s) e (w .placed) in
         let l : end ≤ length s = p .bound in
         let n : length s - length (drop end s) ≡ end = omega (arith, length-drop end s) in
-        rw (w .read, e, text-range-is s p n)
+        rw (w .read, e, text-range-is s p n, n)
 
   pub block-end : at ≡ length s → at-end ≡ block-answer s at
   unfolding block-answer

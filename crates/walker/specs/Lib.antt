@@ -3,5 +3,6 @@ pub mod Answers
 pub mod Places
 pub mod Numbers
 pub mod Walk
+pub mod Decoded
 -- What the contracts of the inner functions say.
 pub mod Readers

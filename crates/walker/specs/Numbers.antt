@@ -3,11 +3,11 @@
 use Prim.Native.Nat.{ℕ}
 use mathlib.Core.Option.{none, some}
 use Rattle.walker.specs.Answers.{Answer, at-end, refused, gives, BlockValues, Emphasis}
+use Rattle.walker.specs.Places.{SpanValues}
 use Rattle.walker.specs.declared.BlockAnswer.{BlockAnswer}
 use Rattle.walker.specs.declared.BlockAnswer.the-variants as B
 use Rattle.walker.specs.declared.SpanAnswer.{SpanAnswer}
 use Rattle.walker.specs.declared.SpanAnswer.the-variants as S
-use Rattle.walker.specs.declared.Range.{Range}
 use Rattle.walker.specs.declared.FirstAnswer.{FirstAnswer}
 use Rattle.walker.specs.declared.FirstAnswer.the-variants as F
 use Rattle.walker.specs.declared.HereAnswer.{HereAnswer}
@@ -25,8 +25,9 @@ first-values (F.At at) = gives at
 first-values F.End = at-end
 first-values F.Bad = refused 7
 
-abbrev pub here-values : HereAnswer → Answer (Emphasis × Range)
-here-values (H.Span b i c start end) = gives (record { bold = b; italic = i; code = c }, record { start = start; end = end })
+abbrev pub here-values : HereAnswer → Answer SpanValues
+here-values (H.Span b i c start end next) =
+    gives (record { emphasis = record { bold = b; italic = i; code = c }; text = record { start = start; end = end }; next = next })
 here-values H.Bad = refused 7
 
 abbrev pub span-values : SpanAnswer → Answer Emphasis

@@ -66,6 +66,14 @@ text-part s at n name = part-of s (text-place (now s) at n) name
 unfoldable pub first-answer : List ℕ → ℕ → Answer ℕ
 first-answer s at = map (λ f. span-from (f .0 .spans) (f .1) 0) (found-at s at)
 
--- and a span by its own offset: its emphasis and where its text stands; the next span starts where the text ends
-unfoldable pub here-answer : List ℕ → ℕ → Answer (Emphasis × Range)
-here-answer s at = map (λ f. (emphasis-of (f .0), text-range (f .1) (f .0 .text))) (placed (length s) (span-at (drop at s)))
+-- and a span by its own offset: its emphasis, where its text stands, and the offset behind it, where the next span stands
+pub record SpanValues : Type 0 where
+  pub emphasis : Emphasis
+  pub text : Range
+  pub next : ℕ
+
+abbrev pub span-values-of : Span → ℕ → SpanValues
+span-values-of x next = record { emphasis = emphasis-of x; text = text-range next (x .text); next = next }
+
+unfoldable pub here-answer : List ℕ → ℕ → Answer SpanValues
+here-answer s at = map (λ f. span-values-of (f .0) (f .1)) (placed (length s) (span-at (drop at s)))

@@ -1,4 +1,4 @@
--- A walk over the records by the walker's answers alone: block after block, each at the offset that the one before it gave, and then the end.
+-- A walk over the records by the walker's answers alone: block after block, each at the offset that the one before it gave, and then the end or 7.
 -- Assumes nothing.
 use Prim.Native.Nat.{ℕ}
 use mathlib.Core.Path.{_≡_}
@@ -26,6 +26,15 @@ Ends s at = Blank s at at-end at-end
 abbrev pub Refuses : List ℕ → ℕ → Type 0
 Refuses s at = Blank s at (refused 7) (refused 7)
 
+-- these blocks are shown from an offset on, and then comes what is asked of the last offset
+abbrev pub Steps : (List ℕ → ℕ → Type 0) → List ℕ → ℕ → List Block → Type 0
+Steps last s at [] = last s at
+Steps last s at (b ∷ bs) = (next : ℕ) × Shows s at b next × Steps last s next bs
+
+-- these, and then the end
 abbrev pub Walk : List ℕ → ℕ → List Block → Type 0
-Walk s at [] = Ends s at
-Walk s at (b ∷ bs) = (next : ℕ) × Shows s at b next × Walk s next bs
+Walk s at bs = Steps Ends s at bs
+
+-- these, and then 7
+abbrev pub Breaks : List ℕ → ℕ → List Block → Type 0
+Breaks s at bs = Steps Refuses s at bs

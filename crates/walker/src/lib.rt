@@ -5,6 +5,7 @@ ghost use Rattle.text.specs.Utf8.{encode};
 ghost use Rattle.walker.specs.Answers.{block-answer, marker-answer, span-answer, text-answer};
 ghost use Rattle.walker.specs.Numbers.{block-values, span-values, first-values, here-values};
 ghost use Rattle.walker.specs.Places.{marker-place, text-place, marker-part, text-part, first-answer, here-answer};
+ghost use Rattle.walker.specs.Decoded.{blocks-from, is-whole};
 ghost use Rattle.walker.specs.Readers.{NthIs};
 
 mod fields;
@@ -61,6 +62,30 @@ pub fn block_at(records: &[u8], at: usize) -> BlockAnswer
             start: _,
             end: _,
         } => BlockAnswer::Item { depth, count, next },
+    }
+}
+
+// Whether well-formed blocks, and nothing else, stand from an offset on up to the end of the records.
+pub fn is_whole(records: &[u8], from: usize) -> bool
+    ensures { λ r. ⌜ r ≡ is-whole (blocks-from (now (records .entry)) from) ⌝ }
+{
+    let mut at = from;
+    loop {
+        match block_at(records, at) {
+            BlockAnswer::Heading {
+                level: _,
+                count: _,
+                next,
+            } => at = next,
+            BlockAnswer::Paragraph { count: _, next } => at = next,
+            BlockAnswer::Item {
+                depth: _,
+                count: _,
+                next,
+            } => at = next,
+            BlockAnswer::End => return true,
+            BlockAnswer::Bad => return false,
+        }
     }
 }
 
@@ -212,7 +237,7 @@ pub fn text_at(records: &[u8], at: usize, n: usize) -> &[u8]
 }
 
 // The calls above test the whole block each time. Whoever wants all its spans asks once where the first one stands, and then for each
-// span by its own offset, which is where the text before it ends: that takes time in proportion to the block.
+// span by its own offset, which the span before it gives: that takes time in proportion to the block.
 
 // Where the first span of a block stands; where there is none, the block's end. Bad is number 7.
 pub enum FirstAnswer {
@@ -239,7 +264,8 @@ pub fn first_at(records: &[u8], at: usize) -> FirstAnswer
     FirstAnswer::At(first)
 }
 
-// A span by its own offset: its emphasis, and where its text starts and ends. Bad is number 7.
+// A span by its own offset: its emphasis, where its text starts and ends, and where the next span stands, or the next block behind the
+// last span. Bad is number 7.
 pub enum HereAnswer {
     Span {
         bold: bool,
@@ -247,6 +273,7 @@ pub enum HereAnswer {
         code: bool,
         start: usize,
         end: usize,
+        next: usize,
     },
     Bad,
 }
@@ -270,6 +297,7 @@ pub fn here_at(records: &[u8], at: usize) -> HereAnswer
         code,
         start,
         end,
+        next: end,
     }
 }
 

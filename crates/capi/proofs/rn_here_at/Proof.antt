@@ -23,8 +23,8 @@ flag-requires-2 c κs = search needs
 flag-requires-3 : tie.Need-flag-requires-3
 flag-requires-3 c κs = search needs
 
-sub-t13 : tie.Need-sub-t13
-sub-t13 c =
+sub-t14 : tie.Need-sub-t14
+sub-t14 c =
     let a = c .before .before .before .before .before .before .before .before .args in
     here-ordered (a .records .now) (a .at)
     (ap here-values (sym (c .before .before .before .before .bold .given .1)) ∙ c .before .before .before .before .before .before .here-at .ensures)
@@ -49,7 +49,7 @@ rn-here-at-spec =
     flag-requires
     flag-requires-2
     flag-requires-3
-    sub-t13
+    sub-t14
     enum-told
     returns
     returns-2)
