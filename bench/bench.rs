@@ -1,5 +1,5 @@
-//! bench POINTS [FOLDER]: the port and the published Rust on the same inputs in one run; a table on standard output, and the points of growing
-//! sizes as lines `kind series size port rust` (nanoseconds) in the file POINTS.
+//! bench POINTS [FOLDER]: the port and the published Rust on the same inputs in one run, and the port and a plain Rust on records; a table of each on
+//! standard output, and the points of growing sizes as lines `kind series size port rust` (nanoseconds) in the file POINTS.
 //! FOLDER may hold further inputs: files that end in .md are Markdown, the others pages. bench search: see search.rs.
 mod inputs;
 #[path = "../target/compare/notes.rs"]
@@ -8,12 +8,14 @@ mod notes;
 #[path = "../compare/src/oracle.rs"]
 #[allow(dead_code)]
 mod oracle;
+mod plain;
 #[path = "../compare/src/port.rs"]
 #[allow(dead_code)]
 mod port;
 #[path = "../compare/src/random.rs"]
 mod random;
 mod search;
+mod sections;
 mod theme {
     pub const SEMIBOLD: &str = "";
 }
@@ -81,5 +83,7 @@ fn main() {
         folder_rows(folder, &mut b);
     }
     let found = series_rows(&mut b);
+    println!("\n| records | bytes | port, µs | Rust, µs | port / Rust |\n|---|---|---|---|---|");
+    let found = found + &sections::rows();
     std::fs::write(points, found).unwrap_or_else(|e| stop(format!("{points}: {e}; give a file that can be written")));
 }

@@ -41,7 +41,7 @@ macro_rules! eight {
     };
 }
 
-const PROSE: &str = "The relay now trips when the phase current exceeds its pickup for longer than the curve allows, so a station keeps its settings. ";
+pub const PROSE: &str = "The relay now trips when the phase current exceeds its pickup for longer than the curve allows, so a station keeps its settings. ";
 const RELEASE: &str = "<h2 dir=\"auto\">What&#39;s Changed</h2>\n<ul dir=\"auto\">\n<li>Fix the <code>TMS</code> range by <a class=\"user-mention\" href=\"https://example.org/u/7\">@dev7</a> in <a href=\"https://example.org/p/7\">#7</a></li>\n<li>Faster <strong>start</strong></li>\n</ul>\n<p dir=\"auto\">For <em>all</em> models &amp; sizes.</p>\n";
 const LISTS: &str = "<ol>\n<li>one <strong>two</strong>\n<ul>\n<li>three</li>\n<li>four</li>\n</ul>\n</li>\n</ol>\n";
 /// 64 lists open at once, as many as may be.

@@ -24,12 +24,12 @@ pub struct Effort {
 }
 
 /// How often an input is read in one turn: short ones so often that the clock's own step does not count.
-fn calls(input: &[u8]) -> u32 {
+pub fn calls(input: &[u8]) -> u32 {
     (4_000 / input.len().max(1)).clamp(1, 200) as u32
 }
 
 /// The least time of either of two calls in nanoseconds. They take turns, so that whatever slows the machine for a while slows both.
-fn least(effort: Effort, calls: u32, mut first: impl FnMut(), mut second: impl FnMut()) -> (f64, f64) {
+pub fn least(effort: Effort, calls: u32, mut first: impl FnMut(), mut second: impl FnMut()) -> (f64, f64) {
     let time = |best: Duration, call: &mut dyn FnMut()| {
         let turn = Instant::now();
         (0..calls).for_each(|_| call());

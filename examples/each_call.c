@@ -56,7 +56,20 @@ static void spans(void)
     must(f.number == RN_OK && f.at == 0, "rn_first_at at 34");
     rn_here h = rn_here_at(records, 34, 21);
     must(h.number == RN_OK && !h.bold && !h.italic && !h.code && h.start == 26 && reads(h.start, h.length, "a "), "rn_here_at at 21");
+    must(h.next == 28 && rn_here_at(records, 34, 28).next == 34, "rn_here_at, next");
     must(rn_here_at(records, 34, 34).number == RN_NO_BLOCK, "rn_here_at at 34");
+}
+
+static void sections(void)
+{
+    rn_section s = rn_section_at(records, 34, (const uint8_t *)"T", 1);
+    must(s.number == RN_OK && s.found == 1 && s.start == 0 && s.length == 34, "rn_section_at of T");
+    rn_block b = rn_block_at(records + s.start, s.length, 12);
+    must(b.number == RN_OK && b.kind == RN_ITEM && b.next == s.length, "rn_block_at in the section of T");
+    s = rn_section_at(records, 34, (const uint8_t *)"a b", 3);
+    must(s.number == RN_OK && s.found == 0 && s.start == 0 && s.length == 0, "rn_section_at of a b");
+    s = rn_section_at(records, 33, (const uint8_t *)"T", 1);
+    must(s.number == RN_NO_BLOCK && s.found == 0 && s.start == 0 && s.length == 0, "rn_section_at of T in 33 bytes");
 }
 
 int main(void)
@@ -65,5 +78,6 @@ int main(void)
     convert();
     walk();
     spans();
+    sections();
     return 0;
 }

@@ -24,7 +24,7 @@ static const char *advice(uint32_t number)
     case RN_RECORDS_TOO_LONG:
         return "the records do not fit; give the result RN_RECORDS_MAX bytes";
     case RN_NO_BLOCK:
-        return "no block stands here; walk only what rn_blocks wrote, from 0 and then by next";
+        return "no block stands here, or one is broken; read only what rn_blocks wrote, from 0 and then by next";
     default:
         return "a number that release_notes.h does not have; library and header differ";
     }
@@ -130,7 +130,7 @@ static void list_spans(const uint8_t *records, size_t length, size_t at, size_t 
                span.bold || span.italic || span.code ? "" : " plain");
         put_part(records, text);
         printf("\"\n");
-        span_at = span.start + span.length;
+        span_at = span.next;
     }
 }
 

@@ -1,4 +1,4 @@
-//! Safe calls over the C library: a page to Markdown, Markdown to block records, and iterators over the records.
+//! Safe calls over the C library: a page to Markdown, Markdown to block records, iterators over the records, and their sections.
 //! Compile it as a module and link with libcapi.a (`-L native=target/staticlib -l static=capi`); include/release_notes.h says what each C
 //! call does. The C calls keep no state, so the functions here may run on any number of threads at once.
 #![allow(dead_code)] // a program seldom needs every call
@@ -29,7 +29,7 @@ pub enum Refusal {
     TooLong = 5,
     /// The records do not fit the result.
     RecordsTooLong = 6,
-    /// The offset is past the end of the records, or no well-formed block stands there.
+    /// The offset is past the end of the records, or no well-formed block stands there; of `section`, a block of the records is broken.
     NoBlock = 7,
 }
 
@@ -60,7 +60,7 @@ impl fmt::Display for Refusal {
             Refusal::TooManyLists => "a list stands inside 64 others; close lists that were left open, or nest fewer",
             Refusal::TooLong => "the Markdown is over RN_MARKDOWN_MAX bytes; shorten it",
             Refusal::RecordsTooLong => "the records do not fit; give the result RN_RECORDS_MAX bytes",
-            Refusal::NoBlock => "no block stands here; walk only what rn_blocks wrote, from 0 and then by next",
+            Refusal::NoBlock => "no block stands here, or one is broken; read only what rn_blocks wrote, from 0 and then by next",
         })
     }
 }
@@ -107,6 +107,14 @@ mod raw {
         pub code: u32,
         pub start: usize,
         pub length: usize,
+        pub next: usize,
+    }
+    #[repr(C)]
+    pub struct SectionAt {
+        pub number: u32,
+        pub found: u32,
+        pub start: usize,
+        pub length: usize,
     }
     extern "C" {
         pub fn rn_html_to_markdown(page: *const u8, page_len: usize, work: *mut u8, work_len: usize, result: *mut u8, result_len: usize) -> Written;
@@ -116,6 +124,7 @@ mod raw {
         pub fn rn_marker_at(records: *const u8, records_len: usize, at: usize) -> Part;
         pub fn rn_first_at(records: *const u8, records_len: usize, at: usize) -> FirstAt;
         pub fn rn_here_at(records: *const u8, records_len: usize, span_at: usize) -> HereAt;
+        pub fn rn_section_at(records: *const u8, records_len: usize, title: *const u8, title_len: usize) -> SectionAt;
     }
 }
 
@@ -253,7 +262,7 @@ impl<'a> Iterator for Spans<'a> {
         let records = self.records;
         // SAFETY: the pointer goes with the length of its slice.
         let span = unsafe { raw::rn_here_at(records.as_ptr(), records.len(), self.at) };
-        self.at = span.start + span.length;
+        self.at = span.next;
         let text = part(records, raw::Part { start: span.start, length: span.length });
         Some(Span { text, bold: span.bold == 1, italic: span.italic == 1, code: span.code == 1 })
     }
@@ -274,6 +283,15 @@ fn part(records: &[u8], part: raw::Part) -> &str {
     str::from_utf8(&records[part.start..part.start + part.length]).expect("the parts of a well-formed block are UTF-8")
 }
 
+/// The first section whose heading has this text: the heading and all blocks up to the next heading of the same or a smaller level, or `None`.
+/// It is a part of the records, which `walk` and `section` take as they take the whole. Refuses with `NoBlock` where any block is broken.
+pub fn section<'a>(records: &'a [u8], title: &[u8]) -> Result<Option<&'a [u8]>, Refusal> {
+    // SAFETY: each pointer goes with the length of its slice.
+    let section = unsafe { raw::rn_section_at(records.as_ptr(), records.len(), title.as_ptr(), title.len()) };
+    Refusal::check(section.number)?;
+    Ok((section.found == 1).then(|| &records[section.start..section.start + section.length]))
+}
+
 #[cfg(test)]
 mod tests {
     use super::*;
@@ -283,10 +301,14 @@ mod tests {
         Span { text, bold: emphasis.contains('b'), italic: emphasis.contains('i'), code: emphasis.contains('c') }
     }
 
+    /// Kind and spans of each block.
+    fn walked(records: &[u8]) -> Vec<(String, Vec<Span<'_>>)> {
+        walk(records).map(|block| block.unwrap()).map(|block| (format!("{:?}", block.kind), block.spans().collect())).collect()
+    }
+
     /// Kind and spans of each block of Markdown.
     fn listed(markdown: &str) -> Vec<(String, Vec<Span<'static>>)> {
-        let records: &'static [u8] = Box::leak(blocks(markdown.as_bytes()).unwrap().into_boxed_slice());
-        walk(records).map(|block| block.unwrap()).map(|block| (format!("{:?}", block.kind), block.spans().collect())).collect()
+        walked(Box::leak(blocks(markdown.as_bytes()).unwrap().into_boxed_slice()))
     }
 
     fn markdown(page: &str) -> String {
@@ -358,6 +380,26 @@ mod tests {
             let mut walk = walk(bytes);
             assert_eq!(walk.next().unwrap().unwrap_err(), Refusal::NoBlock);
             assert!(walk.next().is_none());
+        }
+    }
+
+    #[test]
+    fn sections() {
+        let records = blocks(b"before\n\n# A\n\nx\n\n## B\n\n- y\n\n## **C**D\n\n# B").unwrap();
+        let all = walked(&records);
+        assert_eq!(all.len(), 7);
+        for (title, blocks) in [("A", 1..6), ("B", 3..5), ("CD", 5..6)] {
+            let part = section(&records, title.as_bytes()).unwrap().unwrap();
+            assert_eq!(walked(part), all[blocks], "{title}");
+            assert_eq!(section(part, title.as_bytes()), Ok(Some(part)));
+        }
+        for title in [&b""[..], b"a", b"A ", b"C", b"CDB", b"x", b"before", b"A\xff"] {
+            assert_eq!(section(&records, title), Ok(None));
+        }
+        assert_eq!(section(&[1, 3], b""), Ok(Some(&[1, 3][..])));
+        assert_eq!(section(&[], b""), Ok(None));
+        for title in ["A", "B", "none"] {
+            assert_eq!(section(&records[..records.len() - 1], title.as_bytes()), Err(Refusal::NoBlock));
         }
     }
 

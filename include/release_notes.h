@@ -1,5 +1,5 @@
 /*
- * Release notes: an HTML page to short Markdown, Markdown to block records, and a walker that reads the records.
+ * Release notes: an HTML page to short Markdown, Markdown to block records, a walker that reads the records, and their sections.
  *
  * Link with libcapi.a, which `rt staticlib capi` writes to target/staticlib (x86-64 Linux). It needs memcpy and memset, nothing else.
  *
@@ -32,7 +32,8 @@ enum rn_number {
     RN_TOO_MANY_LISTS = 4,   /* the page opens a list inside 64 open ones */
     RN_TOO_LONG = 5,         /* the Markdown is over RN_MARKDOWN_MAX bytes */
     RN_RECORDS_TOO_LONG = 6, /* the records do not fit the block reader's result: RN_RECORDS_MAX */
-    RN_NO_BLOCK = 7          /* the offset is past the end, or no well-formed block stands there (rn_here_at: no well-formed span) */
+    RN_NO_BLOCK = 7          /* the offset is past the end, or no well-formed block stands there (rn_here_at: no well-formed span;
+                                rn_section_at: records broken somewhere) */
 };
 
 /*
@@ -214,11 +215,13 @@ typedef struct rn_first {
 rn_first rn_first_at(const uint8_t *records, size_t records_length, size_t at);
 
 /*
- * A span by its own offset: that of rn_first_at, and then start + length of the span before. Only `count` of rn_block says how many
- * spans a block has; behind the last one stands the next block.
+ * A span by its own offset: that of rn_first_at, and then `next` of the span before. Only `count` of rn_block says how many spans a block
+ * has; behind the last one stands the next block.
  *   number              RN_OK or RN_NO_BLOCK: no well-formed span stands there; none does at the records' end
  *   bold, italic, code  1 or 0 each, in any combination
  *   start, length       the text, a part of the records
+ *   next                the offset of the next span, after the last span that of the next block. Go on there: that it is start + length
+ *                       holds only as long as nothing follows the text in a span.
  */
 typedef struct rn_here {
     uint32_t number;
@@ -227,9 +230,33 @@ typedef struct rn_here {
     uint32_t code;
     size_t start;
     size_t length;
+    size_t next;
 } rn_here;
 
 rn_here rn_here_at(const uint8_t *records, size_t records_length, size_t span_at);
+
+/*
+ * The section of a title. A section is a heading and all blocks up to the next heading of the same or a smaller level, or to the end of
+ * the records; so that of a heading of level 1 holds the sections of the headings of level 2 and 3 below it.
+ *   number         RN_OK, or RN_NO_BLOCK: a block of the records is broken, be it before, in or behind the section
+ *   found          1, or 0 if no heading has this title, which is no refusal
+ *   start, length  the section: `length` bytes from records + start, always inside the records; 0 and 0 if there is none
+ * These bytes are records of their own: give records + start and length to any call of the walker, which counts offsets from 0 there,
+ * or to rn_section_at again, for a section inside.
+ */
+typedef struct rn_section {
+    uint32_t number;
+    uint32_t found;
+    size_t start;
+    size_t length;
+} rn_section;
+
+/*
+ * The first section whose heading has exactly the bytes of `title`: the texts of its spans one after the other, with nothing between them.
+ * The title may be a part of the records. An empty one is that of a heading without text, and one that is not UTF-8 that of none.
+ * Each call reads all the records, in time in proportion to their bytes.
+ */
+rn_section rn_section_at(const uint8_t *records, size_t records_length, const uint8_t *title, size_t title_length);
 
 #ifdef __cplusplus
 }

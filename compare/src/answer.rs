@@ -15,6 +15,7 @@ const LONGEST: usize = 1 << 26;
 /// What the calls are lent, to read and to write, and the answer.
 struct Driver {
     read: Vec<u8>,
+    title: Vec<u8>,
     work: Vec<u8>,
     result: Vec<u8>,
     answer: Answer,
@@ -29,7 +30,7 @@ fn fill(buffer: &mut Vec<u8>, length: &[u8]) -> Option<()> {
 
 impl Driver {
     fn new() -> Driver {
-        Driver { read: Vec::new(), work: Vec::new(), result: Vec::new(), answer: Answer::new() }
+        Driver { read: Vec::new(), title: Vec::new(), work: Vec::new(), result: Vec::new(), answer: Answer::new() }
     }
 
     /// The answer to a request, with byte 10.
@@ -50,6 +51,7 @@ impl Driver {
             [b"blocks1", work, result, markdown] => self.blocks1(work, result, markdown),
             [b"sheet1", page] => self.sheet1(page),
             [b"walk", records] => self.walk(records),
+            [b"u9", title, records] => self.u9(title, records),
             _ => None,
         }
     }
@@ -139,10 +141,17 @@ impl Driver {
         self.answer.text(",");
         self.answer.number((span.bold + 2 * span.italic + 4 * span.code) as usize);
         self.answer.text(":");
-        let end = span.start + span.length;
-        self.answer.bytes(&self.read[span.start..end]);
+        self.answer.bytes(&self.read[span.start..span.start + span.length]);
         self.answer.text(":-");
-        end
+        span.next
+    }
+
+    fn u9(&mut self, title: &[u8], records: &[u8]) -> Option<()> {
+        bytes(title, &mut self.title)?;
+        bytes(records, &mut self.read)?;
+        let section = port::section_at(&self.read, &self.title);
+        self.answer.numbers(&[section.number as usize, section.found as usize, section.start, section.start + section.length]);
+        Some(())
     }
 }
 

@@ -1,7 +1,9 @@
 //! What the replay program is given. Sheets and near-sheets with what document 01 says of them: the reader of sheet.rs says yes or no, and the
-//! Rust gives the Markdown and the records. And the Rust's answers to the pages and Markdown texts of tools/replay-data.
+//! Rust gives the Markdown and the records. Titles and records with the sections that sections.rs finds. And the Rust's answers to the pages and Markdown
+//! texts of tools/replay-data.
 use crate::random::Random;
-use crate::{inputs, oracle, sheet, sheets};
+use crate::sections::{self, Answer};
+use crate::{inputs, oracle, outlines, sheet, sheets};
 use std::io::{Read, Write};
 
 fn answer(page: &[u8]) -> Result<Vec<u8>, u32> {
@@ -15,19 +17,35 @@ fn answer(page: &[u8]) -> Result<Vec<u8>, u32> {
     Ok(out)
 }
 
-fn case(page: &[u8]) -> Vec<u8> {
-    let found = answer(page);
-    let length = found.as_ref().map_or_else(|number| *number, |bytes| bytes.len() as u32);
-    let mut out = vec![b'S'];
-    out.extend((page.len() as u32).to_le_bytes());
+/// A case as the replay program reads it; the number of a refusal stands in place of the answer's length.
+fn case(letter: u8, input: &[u8], answer: Result<Vec<u8>, u32>) -> Vec<u8> {
+    let length = answer.as_ref().map_or_else(|number| *number, |bytes| bytes.len() as u32);
+    let mut out = vec![letter];
+    out.extend((input.len() as u32).to_le_bytes());
     out.extend(length.to_le_bytes());
-    out.extend(page);
-    out.extend(found.unwrap_or_default());
+    out.extend(input);
+    out.extend(answer.unwrap_or_default());
     out
 }
 
-pub fn write() {
-    let (mut r, mut out) = (Random::new(1), Vec::new());
+fn sheet_case(page: &[u8]) -> Vec<u8> {
+    case(b'S', page, answer(page))
+}
+
+/// The title's length in one byte, the title and the records; the answer is the section, nothing where there is none.
+fn section_case(title: &[u8], records: &[u8]) -> Vec<u8> {
+    let length = u8::try_from(title.len()).expect("a title of a case has at most 255 bytes; take a shorter one");
+    let input = [&[length], title, records].concat();
+    let answer = match sections::section(title, records) {
+        Answer::Broken => Err(0xFFFF_FF07),
+        Answer::Missing => Ok(Vec::new()),
+        Answer::Found { start, end, .. } => Ok(records[start..end].to_vec()),
+    };
+    case(b'T', &input, answer)
+}
+
+fn write_sheets(out: &mut Vec<u8>) {
+    let mut r = Random::new(1);
     for k in 0..180 {
         let page = match k % 4 {
             0 => sheets::near(&mut r).into_bytes(),
@@ -37,11 +55,27 @@ pub fn write() {
             }
             _ => sheets::random(&mut r).into_bytes(),
         };
-        out.extend(case(&page));
+        out.extend(sheet_case(&page));
     }
     for _ in 0..2 {
-        out.extend(case(sheets::long(&mut r).as_bytes()));
+        out.extend(sheet_case(sheets::long(&mut r).as_bytes()));
     }
+}
+
+fn write_sections(out: &mut Vec<u8>) {
+    let mut r = Random::new(2);
+    for k in 0..96 {
+        let blocks = if k % 6 == 0 { oracle::blocks(&outlines::markdown(&mut r)) } else { outlines::random(&mut r) };
+        let (title, whole) = (outlines::title(&mut r, &blocks), oracle::records(&blocks));
+        let records = if k % 6 == 1 { outlines::broken(&mut r, whole) } else { whole };
+        out.extend(section_case(&title, &records));
+    }
+}
+
+pub fn write() {
+    let mut out = Vec::new();
+    write_sheets(&mut out);
+    write_sections(&mut out);
     std::io::stdout().write_all(&out).expect("standard output cannot be written; send it to a file");
 }
 

@@ -1,7 +1,8 @@
 //! One input to both sides. Each function answers whether they agree; both buffers are filled with a pattern first, so that "unchanged" is seen.
 use crate::oracle::{self, Block, Span};
-use crate::port::{self, BlockAt, FirstAt, HereAt, SpanAt, Tested, Written, END, HEADING, ITEM, PARAGRAPH};
+use crate::port::{self, BlockAt, FirstAt, HereAt, SectionAt, SpanAt, Tested, Written, END, HEADING, ITEM, PARAGRAPH};
 use crate::random::Random;
+use crate::sections::{self, Answer};
 
 const FILL: u8 = 0xA5;
 const MAX_HTML: usize = 1_048_576;
@@ -78,9 +79,9 @@ fn ends_at(records: &[u8], at: usize, n: usize) -> bool {
     port::span_at(records, at, n) == SpanAt { number: 0, kind: END, bold: 0, italic: 0, code: 0 } && port::text_at(records, at, n).is_empty()
 }
 
-/// A span whose text ends at an offset.
-fn here(span: &Span, end: usize) -> HereAt {
-    HereAt { number: 0, bold: span.bold as u32, italic: span.italic as u32, code: span.code as u32, start: end - span.text.len(), length: span.text.len() }
+/// A span that ends with its text, before the next offset.
+fn here(span: &Span, next: usize) -> HereAt {
+    HereAt { number: 0, bold: span.bold as u32, italic: span.italic as u32, code: span.code as u32, start: next - span.text.len(), length: span.text.len(), next }
 }
 
 /// The spans in turn, each by its own offset, up to the next block.
@@ -89,8 +90,8 @@ fn in_turn(records: &[u8], at: usize, spans: &[Span], next: usize) -> bool {
     let mut span_at = first.at;
     let same = spans.iter().all(|span| {
         let found = port::here_at(records, span_at);
-        span_at = found.start + found.length;
-        span_at >= span.text.len() && found == here(span, span_at) && records[found.start..span_at] == *span.text.as_bytes()
+        span_at = found.next;
+        span_at >= span.text.len() && found == here(span, span_at) && records.get(found.start..found.start + found.length) == Some(span.text.as_bytes())
     });
     first.number == 0 && same && span_at == next
 }
@@ -108,16 +109,34 @@ fn block_is(records: &[u8], at: usize, block: &Block) -> Option<usize> {
     (same && spans_same && in_turn(records, at, spans, found.next) && ends_at(records, at, spans.len()) && found.next > at).then_some(found.next)
 }
 
-/// The records of a Markdown text, walked from the start: each block in order, then the end.
-pub fn walk(markdown: &str) -> bool {
-    let blocks = oracle::blocks(markdown);
-    let records = oracle::records(&blocks);
+/// Records walked from the start: each block in order, then the end.
+fn walks(records: &[u8], blocks: &[Block]) -> bool {
     let mut at = 0;
-    for block in &blocks {
-        let Some(next) = block_is(&records, at, block) else { return false };
+    for block in blocks {
+        let Some(next) = block_is(records, at, block) else { return false };
         at = next;
     }
-    at == records.len() && end_is(&records, at) && no_block(&records, at + 1) && no_span(&records, at + 1)
+    at == records.len() && end_is(records, at) && no_block(records, at + 1) && no_span(records, at + 1)
+}
+
+/// The records of a Markdown text.
+pub fn walk(markdown: &str) -> bool {
+    let blocks = oracle::blocks(markdown);
+    walks(&oracle::records(&blocks), &blocks)
+}
+
+/// A title's section, and the blocks of its part, walked as records of their own. Each slice is lent in a box of its length.
+pub fn section(title: &[u8], records: &[u8]) -> bool {
+    let (title, records): (Box<[u8]>, Box<[u8]>) = (title.into(), records.into());
+    let answer = port::section_at(&records, &title);
+    match sections::section(&title, &records) {
+        Answer::Broken => answer == SectionAt { number: 7, found: 0, start: 0, length: 0 },
+        Answer::Missing => answer == SectionAt { number: 0, found: 0, start: 0, length: 0 },
+        Answer::Found { start, end, blocks } => {
+            let part: Box<[u8]> = records[start..end].into();
+            answer == SectionAt { number: 0, found: 1, start, length: end - start } && walks(&part, &blocks)
+        }
+    }
 }
 
 /// What the calls answer at the records' length, where no span stands either.
@@ -137,7 +156,7 @@ fn no_block(records: &[u8], at: usize) -> bool {
 
 /// What the call answers where no span stands.
 fn no_span(records: &[u8], at: usize) -> bool {
-    port::here_at(records, at) == HereAt { number: 7, bold: 0, italic: 0, code: 0, start: 0, length: 0 }
+    port::here_at(records, at) == HereAt { number: 7, bold: 0, italic: 0, code: 0, start: 0, length: 0, next: 0 }
 }
 
 /// Damaged records at every offset and past the end: a block there, and a span, exactly if a strict reader finds one.
@@ -149,7 +168,7 @@ pub fn damaged_records(records: &[u8]) -> bool {
             None => no_block(records, at),
         };
         let span_same = match crate::records::span(records, at) {
-            Some((span, end)) => port::here_at(records, at) == here(&span, end),
+            Some((span, next)) => port::here_at(records, at) == here(&span, next),
             None => no_span(records, at),
         };
         block_same && span_same

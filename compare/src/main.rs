@@ -1,5 +1,6 @@
-//! compare [N [SEED]]: about N inputs to the port and to the published Rust, and every character to both. Prints how many of each kind were run and
-//! differ; ends with status 1 where any does, with 2 where it was not called so. compare cases, compare answers: what tools/replay-data puts together.
+//! compare [N [SEED]]: about N inputs to the port and to the published Rust, and every character to both; and half as many titles and records to the
+//! port and to a reading of document 02's sections. Prints how many of each kind were run and differ; ends with status 1 where any does, with 2 where it
+//! was not called so. compare cases, compare answers: what tools/replay-data puts together.
 mod cases;
 mod check;
 mod inputs;
@@ -7,15 +8,18 @@ mod inputs;
 #[allow(dead_code)]
 mod notes;
 mod oracle;
+mod outlines;
 mod port;
 mod random;
 mod records;
+mod sections;
 mod sheet;
 mod sheets;
 mod theme {
     pub const SEMIBOLD: &str = "";
 }
 
+use oracle::Block;
 use random::Random;
 
 /// The least N, so that each kind is run.
@@ -112,6 +116,32 @@ fn sheets(n: usize, seed: u64) -> Vec<Count> {
     ]
 }
 
+/// Where the two differ, the request is shown that compare/answer takes.
+fn checked_section(title: &[u8], records: &[u8]) -> (Vec<u8>, bool) {
+    let same = check::section(title, records);
+    (if same { Vec::new() } else { outlines::request(title, records) }, same)
+}
+
+/// A title for these blocks, looked for in their records.
+fn titled(blocks: &[Block], r: &mut Random) -> (Vec<u8>, bool) {
+    checked_section(&outlines::title(r, blocks), &oracle::records(blocks))
+}
+
+fn sections(n: usize, seed: u64) -> Vec<Count> {
+    let titles = outlines::SHORT_TITLES;
+    vec![
+        run("short sections", n / 5, seed + 15, |k, _| checked_section(titles[k % titles.len()], &short(&outlines::SHORT, k / titles.len()))),
+        run("random sections", n / 8, seed + 16, |_, r| titled(&outlines::random(r), r)),
+        run("damaged sections", n / 16, seed + 17, |_, r| {
+            let blocks = outlines::random(r);
+            let title = outlines::title(r, &blocks);
+            checked_section(&title, &outlines::broken(r, oracle::records(&blocks)))
+        }),
+        run("sections of Markdown", n / 16, seed + 18, |_, r| titled(&oracle::blocks(&outlines::markdown(r)), r)),
+        run("long sections", n / 2000, seed + 19, |_, r| titled(&outlines::long(r), r)),
+    ]
+}
+
 /// Every character, the surrogates left out: 1,112,064.
 fn characters() -> Vec<Count> {
     let mut buffers = check::Buffers::new();
@@ -123,7 +153,7 @@ fn characters() -> Vec<Count> {
 }
 
 fn stop(why: &str) -> ! {
-    eprintln!("compare: {why}\nIt is called as compare/run NOTES_RS [N [SEED]]: about N inputs, {LEAST} at least (10000 where it is left out), by the generator's SEED (1).");
+    eprintln!("compare: {why}\nIt is called as compare/run NOTES_RS [N [SEED]]: about N inputs and half as many sections, N {LEAST} at least (10000 where it is left out), by the generator's SEED (1).");
     std::process::exit(2)
 }
 
@@ -147,7 +177,7 @@ fn main() {
     if let Some(word) = words.get(2) {
         stop(&format!("{word:?} is one word too many; leave it out"));
     }
-    let counts: Vec<Count> = [pages(n, seed), texts(n, seed), sheets(n, seed), characters()].into_iter().flatten().collect();
+    let counts: Vec<Count> = [pages(n, seed), texts(n, seed), sheets(n, seed), sections(n, seed), characters()].into_iter().flatten().collect();
     for count in &counts {
         println!("{:22}{:9} run {:6} differ", count.kind, count.run, count.differ);
     }

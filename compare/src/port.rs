@@ -53,6 +53,15 @@ pub struct HereAt {
     pub code: u32,
     pub start: usize,
     pub length: usize,
+    pub next: usize,
+}
+#[repr(C)]
+#[derive(Debug, PartialEq)]
+pub struct SectionAt {
+    pub number: u32,
+    pub found: u32,
+    pub start: usize,
+    pub length: usize,
 }
 pub const END: u32 = 0;
 pub const HEADING: u32 = 1;
@@ -71,6 +80,7 @@ mod raw {
         pub fn rn_text_at(records: *const u8, len: usize, at: usize, n: usize) -> Part;
         pub fn rn_first_at(records: *const u8, len: usize, at: usize) -> FirstAt;
         pub fn rn_here_at(records: *const u8, len: usize, at: usize) -> HereAt;
+        pub fn rn_section_at(records: *const u8, len: usize, title: *const u8, title_len: usize) -> SectionAt;
     }
 }
 
@@ -102,4 +112,7 @@ pub fn first_at(records: &[u8], at: usize) -> FirstAt {
 }
 pub fn here_at(records: &[u8], at: usize) -> HereAt {
     unsafe { raw::rn_here_at(records.as_ptr(), records.len(), at) }
+}
+pub fn section_at(records: &[u8], title: &[u8]) -> SectionAt {
+    unsafe { raw::rn_section_at(records.as_ptr(), records.len(), title.as_ptr(), title.len()) }
 }

@@ -67,7 +67,7 @@ pub(crate) fn block(records: &[u8], at: usize) -> Option<(Block, usize)> {
     Some((block, records.len() - reader.rest.len()))
 }
 
-/// The span at an offset and where its text ends; none where no well-formed span stands.
+/// The span at an offset and the next offset; none where no well-formed span stands.
 pub(crate) fn span(records: &[u8], at: usize) -> Option<(Span, usize)> {
     let mut reader = Reader { rest: records.get(at..)? };
     let span = reader.span()?;
