@@ -10,7 +10,7 @@ use Rattle.markdown.specs.declared.Answer as MA
 use Rattle.markdown.specs.Answers as M
 use Rattle.records.specs.Format.{bit}
 use Rattle.walker.specs.Answers.{Answer, at-end, refused, gives, BlockValues, Emphasis}
-use Rattle.walker.specs.Places.{SpanValues}
+use Rattle.walker.specs.Places.{HereValues}
 use Rattle.walker.specs.declared.Range.{Range}
 use Rattle.sheet.specs.Calls as S
 use Rattle.sheet.specs.Calls.{no-utf8, no-sheet, yes-sheet}
@@ -67,7 +67,7 @@ first-struct at-end = record { number = 0; at = 0 }
 first-struct (refused n) = record { number = n; at = 0 }
 first-struct (gives at) = record { number = 0; at = at }
 
-abbrev pub here-struct : Answer SpanValues → HereAt
+abbrev pub here-struct : Answer HereValues → HereAt
 here-struct at-end = record { number = 0; bold = 0; italic = 0; code = 0; start = 0; length = 0; next = 0 }
 here-struct (refused n) = record { number = n; bold = 0; italic = 0; code = 0; start = 0; length = 0; next = 0 }
 here-struct (gives v) =

@@ -14,8 +14,10 @@ use borrow.Author.Tests.{leb-true, leb-false, ltb-true, ltb-false, eqb-true, le-
 use Rattle.text.specs.Utf8.{Scalars, encode, size, chars, is-utf8}
 use Rattle.text.proofs.Laws.{encode-chars, size-chars, utf8-scalars}
 use Rattle.records.specs.Blocks.{Span, Kind, Block, item}
-use Rattle.records.specs.Format.{le16, le32, non-empty, text-form, span-map, encode-span, encode-spans, encode-kind, encode-count, encode-block, kind-bits, bit, is-marker, WfSpan, WfSpans, WfKind, WfBlock}
-use Rattle.records.specs.Decode.{Bytes, Parse, _▹_, only, u16, u32, part, text-at, span-of, span-at, spans-at, level-at, marker-at, item-at, kind-at, count-at, Head, head-at, block-at, failed, parsed}
+use Rattle.records.specs.Format.{le16, le32, non-empty, text-form, span-map, encode-span, encode-spans, encode-kind, encode-count, encode-block}
+use Rattle.records.specs.Format.{kind-bits, bit, is-marker, WfSpan, WfSpans, WfKind, WfBlock}
+use Rattle.records.specs.Decode.{Bytes, Parse, failed, parsed, _▹_, only, u16, u32, part, text-at, span-of, span-at, spans-at}
+use Rattle.records.specs.Decode.{level-at, marker-at, item-at, kind-at, count-at, Head, head-at, block-at}
 use Rattle.records.proofs.FormatLaws.{text-some}
 
 module _ {A : Type 0} {a : A} {r : List ℕ} where
@@ -114,7 +116,10 @@ text-at-inv s {cs} {r} h w =
     let ln : 1 ≤ n = leb-true 1 n l in
     let small : n < 2 ^ 32 = x .good in
     let some : 1 ≤ size cs = omega arith in
-    let sm : s ≡ le32 (size cs) ++ (encode cs ++ r) = x .same ∙ ap (λ (l : List ℕ). le32 n ++ l) (y .same) ∙ ap (λ (k : ℕ). le32 k ++ (encode (chars t) ++ q′)) (sym en) ∙ ap (λ (l : List ℕ). le32 (size cs) ++ (encode l ++ q′)) et ∙ ap (λ (l : List ℕ). le32 (size cs) ++ (encode cs ++ l)) er in
+    let sq : s ≡ le32 n ++ (encode (chars t) ++ q′) = x .same ∙ ap (λ (l : List ℕ). le32 n ++ l) (y .same) in
+    let sn : s ≡ le32 (size cs) ++ (encode (chars t) ++ q′) = sq ∙ ap (λ (k : ℕ). le32 k ++ (encode (chars t) ++ q′)) (sym en) in
+    let sc : s ≡ le32 (size cs) ++ (encode cs ++ q′) = sn ∙ ap (λ (l : List ℕ). le32 (size cs) ++ (encode l ++ q′)) et in
+    let sm : s ≡ le32 (size cs) ++ (encode cs ++ r) = sc ∙ ap (λ (l : List ℕ). le32 (size cs) ++ (encode cs ++ l)) er in
     record { same = rw (text-some cs some .0) sm; good = (subst Scalars et (utf8-scalars t u), omega arith, some); left = subst Bytes er (y .left) }
 
 pub moved : {A : Type 0} {enc : A → List ℕ} {ok : A → Type 0} {s : List ℕ} {a b : A} {q r : List ℕ} → parsed a q ≡ parsed b r → Read enc ok s a q → Read enc ok s b r

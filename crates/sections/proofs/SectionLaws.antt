@@ -23,13 +23,13 @@ level-of-heading (heading l) e = (l, refl)
 level-of-heading paragraph e = true-false (sym e)
 level-of-heading (item d m) e = true-false (sym e)
 
-pub titled-heading : (title : List ℕ) (b : Block) → titled title b ≡ true → (l : ℕ) × (b .kind ≡ heading l) × (encode (joined (b .spans)) ≡ title)
+titled-heading : (title : List ℕ) (b : Block) → titled title b ≡ true → (l : ℕ) × (b .kind ≡ heading l) × (encode (joined (b .spans)) ≡ title)
 titled-heading title b e =
     let (h, t) = and-true (is-heading b) (same (encode (joined (b .spans))) title) e in
     let (l, k) = level-of-heading (b .kind) h in
     (l, k, same-true (encode (joined (b .spans))) title t)
 
-pub heading-titled : (title : List ℕ) (l : ℕ) (xs : List Span) → encode (joined xs) ≡ title → titled title (Heading l xs) ≡ true
+heading-titled : (title : List ℕ) (l : ℕ) (xs : List Span) → encode (joined xs) ≡ title → titled title (Heading l xs) ≡ true
 heading-titled title l xs e = rw e (same-self title)
 
 -- ---- until
@@ -42,7 +42,7 @@ module _ (p : Block → Bool) (b : Block) (bs : List Block) where
   unfolding until
   until-more e = rw e
 
-pub until-split : (p : Block → Bool) (bs : List Block) → (cs : List Block) × (bs ≡ until p bs ++ cs)
+until-split : (p : Block → Bool) (bs : List Block) → (cs : List Block) × (bs ≡ until p bs ++ cs)
 unfolding until
 until-split p [] = ([], refl)
 until-split p (b ∷ bs) = by (p b) (until-split p bs)
@@ -114,13 +114,12 @@ module _ (title : List ℕ) where
       let (l, k, e) = titled-heading title b t in
       h l (b .spans) (List·Memᴰ·head (ap (λ (k : Kind). record { kind = k; spans = b .spans }) (sym k))) e
 
-  -- there is no section with a title exactly if no heading has that text
-  pub none-if : (bs : List Block) → NoHeading title bs → section-of title bs ≡ none
+  none-if : (bs : List Block) → NoHeading title bs → section-of title bs ≡ none
   none-if [] h = section-none title
   none-if (b ∷ bs) h =
       ⊎-elim (λ t. absurd (none-here b bs h t)) (λ t. section-past title b bs t ∙ none-if bs (none-past b bs h)) (decide (titled title b))
 
-  pub if-none : (bs : List Block) → section-of title bs ≡ none → NoHeading title bs
+  if-none : (bs : List Block) → section-of title bs ≡ none → NoHeading title bs
   if-none [] e l xs m t = List·Memᴰ·not-nil m
   if-none (b ∷ bs) e l xs m t = ⊎-elim here (λ u. past u (λ n. if-none bs (sym (section-past title b bs u) ∙ e) l xs n t)) (decide (titled title b))
     where
@@ -130,5 +129,6 @@ module _ (title : List ℕ) where
       past : titled title b ≡ false → (List·Memᴰ (Heading l xs) bs → ⊥) → ⊥
       past u later = ⊎-elim (λ p. true-false (sym (heading-titled title l xs t) ∙ ap (titled title) p ∙ u)) later (List·Memᴰ·cases-cons m)
 
+  -- there is no section with a title exactly if no heading has that text
   pub none-iff : (bs : List Block) → (section-of title bs ≡ none) ↔ NoHeading title bs
   none-iff bs = (if-none bs, none-if bs)

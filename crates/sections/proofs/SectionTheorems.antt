@@ -20,11 +20,11 @@ use Rattle.walker.specs.Answers.{refused, gives}
 use Rattle.walker.specs.Walk.{Walk, Breaks}
 use Rattle.walker.specs.Decoded.{of-blocks}
 use Rattle.walker.specs.declared.Range.{Range}
-use Rattle.walker.proofs.Decoded.{from-start, PartIs, part-is}
+use Rattle.walker.proofs.Decoded.{from-start, HoldsBlocks, holds-blocks}
 use Rattle.walker.proofs.WalkTheorems as W
 use Rattle.sections.specs.Sections.{titled, until, section-of, NoHeading}
 use Rattle.sections.specs.Calls.{place, section-place, section-answer, section-range, section-bytes}
-use Rattle.sections.proofs.SectionLaws.{none-if, if-none, section-split}
+use Rattle.sections.proofs.SectionLaws.{none-iff, section-split}
 
 -- what is answered, and what was read
 module _ {A : Type 0} (f : List Block → A) where
@@ -42,7 +42,7 @@ pub record IsSection (s title : List ℕ) (r : Range) : Type 0 where
   pub decoded : decode-blocks s ≡ parsed blocks []
   pub section : List Block
   pub first : section-of title blocks ≡ some section
-  pub part : PartIs s (r .start) (r .end) section
+  pub part : HoldsBlocks s (r .start) (r .end) section
   pub walks : Walk (between s (r .start) (r .end)) 0 section
 
 module _ (s title : List ℕ) (b : Bytes s) where
@@ -50,7 +50,7 @@ module _ (s title : List ℕ) (b : Bytes s) where
       → IsSection s title (place before x)
   section-is before x behind d f =
       let n : length (encode-blocks before) ≡ 0 + length (encode-blocks before) = omega arith in
-      let p = part-is s 0 b before x behind (from-start s ∙ d) n refl in
+      let p = holds-blocks s 0 b before x behind (from-start s ∙ d) n refl in
       record { blocks = before ++ (x ++ behind); decoded = d; section = x; first = f; part = p; walks = W.part-walks p }
 
   -- where a part is answered
@@ -94,11 +94,11 @@ module _ (s title : List ℕ) where
       let (bs, q, d, f) = given (section-place title) (decode-blocks s) e in
       let n : q ≡ [] = decoded-are-records s d b .2 in
       let h : section-of title bs ≡ none = no-place (place (until (titled title) bs)) (section-of title bs) f in
-      record { blocks = bs; decoded = d ∙ ap (parsed bs) n; none-has = if-none title bs h }
+      record { blocks = bs; decoded = d ∙ ap (parsed bs) n; none-has = none-iff title bs .0 h }
 
   is-missing : IsMissing s title → section-answer s title ≡ gives none
   unfolding section-answer section-place
-  is-missing m = rw (m .decoded, none-if title (m .blocks) (m .none-has))
+  is-missing m = rw (m .decoded, none-iff title (m .blocks) .1 (m .none-has))
 
   -- that there is none is answered exactly then
   pub missing-iff : Bytes s → (section-answer s title ≡ gives none) ↔ IsMissing s title

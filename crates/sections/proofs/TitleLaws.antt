@@ -20,7 +20,7 @@ use Rattle.text.proofs.Laws.{encode-append}
 use Rattle.text.proofs.Tests.{decide, test-iff, same-true, starts-split, true-false}
 use Rattle.records.specs.Blocks.{Span, Block, joined}
 use Rattle.walker.specs.Answers.{Answer, at-end, refused, gives, map, found-at, block-answer}
-use Rattle.walker.specs.Places.{span-from, SpanValues, first-answer, here-answer}
+use Rattle.walker.specs.Places.{span-from, HereValues, first-answer, here-answer}
 use Rattle.walker.specs.Numbers.{first-values, here-values}
 use Rattle.walker.specs.declared.FirstAnswer.{FirstAnswer}
 use Rattle.walker.specs.declared.FirstAnswer.the-variants as F
@@ -109,7 +109,7 @@ module _ (s : List ℕ) (at : ℕ) (title : List ℕ) where
       meets-span e g = absurd (never-bad s at (w .found) n under (w .stands) e g)
 
       module _ {r : HereAnswer} {b i c : Bool} {start end next : ℕ} (e : r ≡ H.Span b i c start end next) (g : here-values r ≡ here-answer s here) where
-        abbrev values : SpanValues
+        abbrev values : HereValues
         values = record { emphasis = record { bold = b; italic = i; code = c }; text = record { start = start; end = end }; next = next }
 
         this : SpanHere s (w .f) n values

@@ -16,7 +16,7 @@ use Rattle.records.proofs.RoundTrip.{decoded-are-records}
 use Rattle.walker.specs.Answers.{gives}
 use Rattle.sections.specs.Sections.{section-of, NoHeading}
 use Rattle.sections.specs.Calls.{section-place, section-answer}
-use Rattle.sections.proofs.SectionLaws.{none-if, not-none}
+use Rattle.sections.proofs.SectionLaws.{none-iff, not-none}
 
 scalars-append : (xs ys : List ℕ) → Scalars xs → Scalars ys → Scalars (xs ++ ys)
 scalars-append [] ys v w = w
@@ -37,7 +37,7 @@ heading-wf (c ∷ bs) w m = ⊎-elim (λ e. subst WfBlock (sym e) (w .0)) (λ n.
 
 -- a title that is not UTF-8 is answered by none, and not by a refusal
 no-utf8-none : (title : List ℕ) (bs : List Block) → WfBlocks bs → is-utf8 title ≡ false → section-of title bs ≡ none
-no-utf8-none title bs w u = none-if title bs no
+no-utf8-none title bs w u = none-iff title bs .1 no
   where
     no : NoHeading title bs
     no l xs m e = not-none (sym (decode-false title u) ∙ title-iff title xs (heading-wf bs w m .spans) .0 e)

@@ -99,16 +99,16 @@ module _ (s : List ℕ) (at : ℕ) where
           decode-bad (drop at s) (rw length-drop (omega arith)) f
       by false t = refl
 
-  pub found-end : found-at s at ≡ at-end → blocks-from s at ≡ parsed [] []
-  found-end f = by (eqb at (length s)) refl (block-at (drop at s)) refl
+  pub left-at-end : found-at s at ≡ at-end → blocks-from s at ≡ parsed [] []
+  left-at-end f = by (eqb at (length s)) refl (block-at (drop at s)) refl
     where
       by : (t : Bool) → eqb at (length s) ≡ t → (p : Parse Block) → block-at (drop at s) ≡ p → blocks-from s at ≡ parsed [] []
       by true t p e = end-is (eqb-true at (length s) t)
       by false t failed e = let g = found-where f false t failed e in let z : _≡_ {A = ℕ} 0 1 = cc in absurd (omega arith)
       by false t (parsed b r) e = let g = found-where f false t (parsed b r) e in let z : _≡_ {A = ℕ} 0 1 = cc in absurd (omega arith)
 
-  pub found-bad : {n : ℕ} → found-at s at ≡ refused n → (n ≡ 7) × (blocks-from s at ≡ failed)
-  found-bad {n} f = by (eqb at (length s)) refl (block-at (drop at s)) refl
+  pub left-at-bad : {n : ℕ} → found-at s at ≡ refused n → (n ≡ 7) × (blocks-from s at ≡ failed)
+  left-at-bad {n} f = by (eqb at (length s)) refl (block-at (drop at s)) refl
     where
       by : (t : Bool) → eqb at (length s) ≡ t → (p : Parse Block) → block-at (drop at s) ≡ p → (n ≡ 7) × (blocks-from s at ≡ failed)
       by true t p e = let g = found-where f true t p e in let z : _≡_ {A = ℕ} 0 1 = cc in absurd (omega arith)
@@ -128,7 +128,7 @@ module _ (s : List ℕ) (at : ℕ) where
       let p : v ≡ values-of (f .0) (f .1) = cc in
       rw p (record { block = f .0; level = refl; depth = refl; count = refl; then = found-next w e })
 
-  pub answer-stands : {v : BlockValues} → Bytes s → gives v ≡ block-answer s at → Stands (v .level) (v .depth) (v .count) (v .next)
+  answer-stands : {v : BlockValues} → Bytes s → gives v ≡ block-answer s at → Stands (v .level) (v .depth) (v .count) (v .next)
   unfolding block-answer
   answer-stands {v} w g = by (found-at s at) refl g
     where
@@ -142,7 +142,7 @@ module _ (s : List ℕ) (at : ℕ) where
   answer-end g = by (found-at s at) refl g
     where
       by : (a : Answer (Block × ℕ)) → found-at s at ≡ a → _≡_ {A = Answer BlockValues} at-end (map (λ f. values-of (f .0) (f .1)) a) → blocks-from s at ≡ parsed [] []
-      by at-end e g = found-end e
+      by at-end e g = left-at-end e
       by (refused n) e g = let z : _≡_ {A = ℕ} 0 1 = cc in absurd (omega arith)
       by (gives f) e g = let z : _≡_ {A = ℕ} 0 1 = cc in absurd (omega arith)
 
@@ -152,7 +152,7 @@ module _ (s : List ℕ) (at : ℕ) where
     where
       by : (a : Answer (Block × ℕ)) → found-at s at ≡ a → _≡_ {A = Answer BlockValues} (refused n) (map (λ f. values-of (f .0) (f .1)) a) → blocks-from s at ≡ failed
       by at-end e g = let z : _≡_ {A = ℕ} 0 1 = cc in absurd (omega arith)
-      by (refused k) e g = found-bad e .1
+      by (refused k) e g = left-at-bad e .1
       by (gives f) e g = let z : _≡_ {A = ℕ} 0 1 = cc in absurd (omega arith)
 
   -- what is known by the case of `block_at`'s answer
@@ -174,17 +174,17 @@ module _ (s : List ℕ) (at : ℕ) where
   block-stands {r = r} e g w = stands-as r (ap block-values (sym e) ∙ g) w
 
 -- ---- the part of the records that some of their blocks are
-pub record PartIs (s : List ℕ) (start end : ℕ) (x : List Block) : Type 0 where
+pub record HoldsBlocks (s : List ℕ) (start end : ℕ) (x : List Block) : Type 0 where
   pub within : Inside s start end
   pub records : between s start end ≡ encode-blocks x
   pub good : WfBlocks x
 
-pub part-is : (s : List ℕ) (at : ℕ) → Bytes s → (before x behind : List Block) {q : List ℕ} {start end : ℕ} → blocks-from s at ≡ parsed (before ++ (x ++ behind)) q
-    → start ≡ at + length (encode-blocks before) → end ≡ start + length (encode-blocks x) → PartIs s start end x
+pub holds-blocks : (s : List ℕ) (at : ℕ) → Bytes s → (before x behind : List Block) {q : List ℕ} {start end : ℕ} → blocks-from s at ≡ parsed (before ++ (x ++ behind)) q
+    → start ≡ at + length (encode-blocks before) → end ≡ start + length (encode-blocks x) → HoldsBlocks s start end x
 unfolding blocks-from
-part-is s at w before x behind {q} {start} {end} e m n = by (leb at (length s)) refl e
+holds-blocks s at w before x behind {q} {start} {end} e m n = by (leb at (length s)) refl e
   where
-    by : (t : Bool) → leb at (length s) ≡ t → only t (decode-blocks (drop at s)) ≡ parsed (before ++ (x ++ behind)) q → PartIs s start end x
+    by : (t : Bool) → leb at (length s) ≡ t → only t (decode-blocks (drop at s)) ≡ parsed (before ++ (x ++ behind)) q → HoldsBlocks s start end x
     by false t e = not-failed e
     by true t e =
         let (p, v, _) = decoded-are-records (drop at s) e (bytes-drop at s w) in

@@ -4,7 +4,7 @@ use Prim.Native.Nat.{ℕ}
 use mathlib.Core.Path.{_≡_, refl, sym, ap, _∙_}
 use mathlib.Core.Option.{Option, none, some}
 use Rattle.walker.specs.Answers.{Answer, at-end, refused, gives, BlockValues, Emphasis}
-use Rattle.walker.specs.Places.{SpanValues}
+use Rattle.walker.specs.Places.{HereValues}
 use Rattle.walker.specs.Numbers.{block-values, span-values, first-values, here-values}
 use Rattle.walker.specs.declared.BlockAnswer.{BlockAnswer}
 use Rattle.walker.specs.declared.BlockAnswer.the-variants as B
@@ -64,7 +64,7 @@ first-back F.Bad = refl
 pub first-values-one : (q r : FirstAnswer) → first-values q ≡ first-values r → q ≡ r
 first-values-one q r e = sym (first-back q) ∙ ap first-case e ∙ first-back r
 
-here-case : Answer SpanValues → HereAnswer
+here-case : Answer HereValues → HereAnswer
 here-case at-end = H.Bad
 here-case (refused n) = H.Bad
 here-case (gives v) = H.Span (v .emphasis .bold) (v .emphasis .italic) (v .emphasis .code) (v .text .start) (v .text .end) (v .next)

@@ -13,7 +13,7 @@ use Rattle.records.specs.Blocks.{Span, Kind, heading, paragraph, item, Block}
 use Rattle.records.specs.Format.{encode-span, encode-spans, bit}
 use Rattle.records.specs.Decode.{Parse, failed, parsed, span-at, spans-at, kind-at, count-at, head-at, block-at}
 use Rattle.walker.specs.Answers.{Answer, at-end, refused, gives, map, placed, found-at, marker-of, text-or-none, marker-answer, nth, nth-of, span-in, text-answer}
-use Rattle.walker.specs.Places.{nowhere, range-or-none, marker-from, marker-range, marker-place, span-from, text-range, nth-range, text-place, SpanValues, span-values-of, here-answer}
+use Rattle.walker.specs.Places.{nowhere, range-or-none, marker-from, marker-range, marker-place, span-from, text-range, nth-range, text-place, HereValues, here-values-of, here-answer}
 use Rattle.text.specs.Part.{between, Inside}
 use Rattle.walker.specs.declared.Range.{Range}
 use Rattle.records.proofs.Decoded.{not-failed, only-inv, then-inv}
@@ -178,7 +178,7 @@ nth-under xs n {x} e = under (ltb n (length xs)) refl
 
 -- a span that stands at k, with j bytes behind it up to the offset next
 here-read : {k j : ℕ} {s from to q : List ℕ} {x : Span} (next : ℕ) → next ≡ length s - length q → After k s from → span-at from ≡ parsed x to → After j to q
-    → (m : ℕ) → m ≡ length (encode-span x) + j → here-answer s (next - m) ≡ gives (span-values-of x (next - j))
+    → (m : ℕ) → m ≡ length (encode-span x) + j → here-answer s (next - m) ≡ gives (here-values-of x (next - j))
 unfolding here-answer
 here-read {k} {j} {s} {from} {to} {q} {x} next e b p a m f =
     let l₁ = after-length b in
@@ -191,7 +191,7 @@ here-read {k} {j} {s} {from} {to} {q} {x} next e b p a m f =
 -- Going through the spans in turn gives those of the block: at the offset of span n stands span n, and it gives the offset of the next.
 -- The first offset is `first-answer`'s by definition.
 pub listed : (s : List ℕ) (at : ℕ) {f : Block × ℕ} → found-at s at ≡ gives f → (n : ℕ) {x : Span} → nth (f .0 .spans) n ≡ gives x
-    → here-answer s (span-from (f .0 .spans) (f .1) n) ≡ gives (span-values-of x (span-from (f .0 .spans) (f .1) (suc n)))
+    → here-answer s (span-from (f .0 .spans) (f .1) n) ≡ gives (here-values-of x (span-from (f .0 .spans) (f .1) (suc n)))
 listed s at {f} h n {x} e =
     let a = found-inv s at h in
     let o = a .is in
@@ -202,12 +202,12 @@ listed s at {f} h n {x} e =
     (length (encode-spans (drop n (f .0 .spans)))) (from-nth (f .0 .spans) n e)
 
 -- a span by its own offset: its text does not end before it starts
-pub here-ordered : (s : List ℕ) (at : ℕ) {v : SpanValues} → gives v ≡ here-answer s at → v .text .start ≤ v .text .end
+pub here-ordered : (s : List ℕ) (at : ℕ) {v : HereValues} → gives v ≡ here-answer s at → v .text .start ≤ v .text .end
 unfolding here-answer
 here-ordered s at {v} h = ordered (span-at (drop at s)) h
   where
-    ordered : (p : Parse Span) → _≡_ {A = Answer SpanValues} (gives v) (map (λ f. span-values-of (f .0) (f .1)) (placed (length s) p)) → v .text .start ≤ v .text .end
+    ordered : (p : Parse Span) → _≡_ {A = Answer HereValues} (gives v) (map (λ f. here-values-of (f .0) (f .1)) (placed (length s) p)) → v .text .start ≤ v .text .end
     ordered failed h = let z : _≡_ {A = ℕ} 0 1 = cc in absurd (omega arith)
     ordered (parsed x q) h =
-        let p : v ≡ span-values-of x (length s - length q) = cc in
+        let p : v ≡ here-values-of x (length s - length q) = cc in
         rw p (omega arith)

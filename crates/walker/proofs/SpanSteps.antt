@@ -8,7 +8,7 @@ use mathlib.Core.List.{List, [], _∷_}
 use lib.ListN.{length, drop}
 use Rattle.records.specs.Blocks.{Span, Block}
 use Rattle.walker.specs.Answers.{gives, emphasis-of, nth, found-at, span-in, text-answer}
-use Rattle.walker.specs.Places.{span-from, text-place, SpanValues, span-values-of, here-answer}
+use Rattle.walker.specs.Places.{span-from, text-place, HereValues, here-values-of, here-answer}
 use Rattle.walker.specs.Numbers.{here-values}
 use Rattle.walker.specs.declared.HereAnswer.{HereAnswer}
 use Rattle.walker.specs.declared.HereAnswer.the-variants as H
@@ -25,7 +25,7 @@ nth-is (x ∷ xs) zero l = record { x = x; is = refl; rest = refl }
 nth-is (x ∷ xs) (suc n) l = let y = nth-is xs n (omega arith) in record { x = y .x; is = y .is; rest = y .rest }
 
 -- span n of a block that was found, by the values that stand at its offset
-pub record SpanHere (s : List ℕ) (f : Block × ℕ) (n : ℕ) (v : SpanValues) : Type 0 where
+pub record SpanHere (s : List ℕ) (f : Block × ℕ) (n : ℕ) (v : HereValues) : Type 0 where
   pub x : Span
   pub rest : drop n (f .0 .spans) ≡ x ∷ drop (suc n) (f .0 .spans)
   pub emphasis : v .emphasis ≡ emphasis-of x
@@ -36,8 +36,8 @@ module _ (s : List ℕ) (at : ℕ) {f : Block × ℕ} (e : found-at s at ≡ giv
   this : Nth (f .0 .spans) n
   this = nth-is (f .0 .spans) n l
 
-  abbrev values : SpanValues
-  values = span-values-of (this .x) (span-from (f .0 .spans) (f .1) (suc n))
+  abbrev values : HereValues
+  values = here-values-of (this .x) (span-from (f .0 .spans) (f .1) (suc n))
 
   its-place : values .text ≡ text-place s at n
   unfolding text-place

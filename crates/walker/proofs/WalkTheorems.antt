@@ -15,10 +15,10 @@ use Rattle.records.proofs.RoundTrip.{decoded-are-records}
 use Rattle.records.proofs.DecodeSteps.{with-block}
 use Rattle.walker.specs.Answers.{Answer, at-end, refused, gives, map, Emphasis, values-of, level-of, depth-of, marker-of, emphasis-of, text-or-none, nth}
 use Rattle.walker.specs.Answers.{found-at, block-answer, marker-answer, span-in, span-answer, text-answer}
-use Rattle.walker.specs.Walk.{Shows, Walk, Breaks}
+use Rattle.walker.specs.Walk.{Shows, Ends, Refuses, Steps, Walk, Breaks}
 use Rattle.walker.specs.Decoded.{blocks-from}
 use Rattle.walker.proofs.Walked.{shows, refuses, walk-gives-back}
-use Rattle.walker.proofs.Decoded.{from-start, found-next, found-end, found-bad, answer-end, answer-bad, PartIs}
+use Rattle.walker.proofs.Decoded.{from-start, found-next, left-at-end, left-at-bad, answer-end, answer-bad, HoldsBlocks}
 
 -- ---- a block is known by what is shown of it
 kind-same : (k l : Kind) → level-of k ≡ level-of l → depth-of k ≡ depth-of l → marker-of k ≡ marker-of l → k ≡ l
@@ -73,13 +73,18 @@ then-failed b failed e = refl
 then-failed b (parsed bs q) e = not-failed (sym e)
 
 module _ (s : List ℕ) (w : Bytes s) where
-  walked : (bs : List Block) (at : ℕ) → Walk s at bs → blocks-from s at ≡ parsed bs []
-  walked [] at h = answer-end s at (sym (h .values))
-  walked (b ∷ bs) at (next, h, t) = found-next s at w (found-shown s at h) .blocks ∙ ap (with-block b) (walked bs next t)
+  -- whatever comes behind the blocks
+  stepped : (last : List ℕ → ℕ → Type 0) (f : List Block → Parse (List Block)) → ((b : Block) (bs : List Block) → with-block b (f bs) ≡ f (b ∷ bs))
+      → ((at : ℕ) → last s at → blocks-from s at ≡ f []) → (bs : List Block) (at : ℕ) → Steps last s at bs → blocks-from s at ≡ f bs
+  stepped last f more end [] at h = end at h
+  stepped last f more end (b ∷ bs) at (next, h, t) =
+      found-next s at w (found-shown s at h) .blocks ∙ ap (with-block b) (stepped last f more end bs next t) ∙ more b bs
 
-  broken : (bs : List Block) (at : ℕ) → Breaks s at bs → blocks-from s at ≡ failed
-  broken [] at h = answer-bad s at (sym (h .values))
-  broken (b ∷ bs) at (next, h, t) = found-next s at w (found-shown s at h) .blocks ∙ ap (with-block b) (broken bs next t)
+  walked : (bs : List Block) → Walk s 0 bs → blocks-from s 0 ≡ parsed bs []
+  walked bs h = stepped Ends (λ bs. parsed bs []) (λ b bs. refl) (λ at e. answer-end s at (sym (e .values))) bs 0 h
+
+  broken : (bs : List Block) → Breaks s 0 bs → blocks-from s 0 ≡ failed
+  broken bs h = stepped Refuses (λ bs. failed) (λ b bs. refl) (λ at e. answer-bad s at (sym (e .values))) bs 0 h
 
   abbrev Broken : ℕ → Type 0
   Broken at = (bs : List Block) × Breaks s at bs
@@ -89,8 +94,8 @@ module _ (s : List ℕ) (w : Bytes s) where
   turn at e go = by (found-at s at) refl
     where
       by : (a : Answer (Block × ℕ)) → found-at s at ≡ a → Broken at
-      by at-end f = not-failed (sym e ∙ found-end s at f)
-      by (refused n) f = ([], refuses s at (f ∙ ap refused (found-bad s at f .0)))
+      by at-end f = not-failed (sym e ∙ left-at-end s at f)
+      by (refused n) f = ([], refuses s at (f ∙ ap refused (left-at-bad s at f .0)))
       by (gives (b, next)) f =
           let x = found-next s at w f in
           let (bs, t) = go next (x .later) (x .within) (then-failed b (blocks-from s next) (sym (x .blocks) ∙ e)) in
@@ -101,14 +106,14 @@ module _ (s : List ℕ) (w : Bytes s) where
   breaks (suc k) at m e = turn at e (λ next l n f. breaks k next (omega arith) f)
 
   pub walk-iff : (bs : List Block) → (decode-blocks s ≡ parsed bs []) ↔ Walk s 0 bs
-  walk-iff bs = (there, λ h. sym (from-start s) ∙ walked bs 0 h)
+  walk-iff bs = (there, λ h. sym (from-start s) ∙ walked bs h)
     where
       there : decode-blocks s ≡ parsed bs [] → Walk s 0 bs
       there e = let (p, v, _) = decoded-are-records s e w in subst (λ (t : List ℕ). Walk t 0 bs) (sym p) (walk-gives-back bs v)
 
   pub breaks-iff : (decode-blocks s ≡ failed) ↔ ((bs : List Block) × Breaks s 0 bs)
-  breaks-iff = (λ e. breaks (length s) 0 (omega arith) (from-start s ∙ e), λ h. sym (from-start s) ∙ broken (h .0) 0 (h .1))
+  breaks-iff = (λ e. breaks (length s) 0 (omega arith) (from-start s ∙ e), λ h. sym (from-start s) ∙ broken (h .0) (h .1))
 
 -- a part of the records that some of their blocks are walks to these
-pub part-walks : {s : List ℕ} {start end : ℕ} {x : List Block} → PartIs s start end x → Walk (between s start end) 0 x
+pub part-walks : {s : List ℕ} {start end : ℕ} {x : List Block} → HoldsBlocks s start end x → Walk (between s start end) 0 x
 part-walks {x = x} p = rw (p .records) (walk-gives-back x (p .good))

@@ -51,7 +51,8 @@ module _ (pre post : List ℕ) (b : Block) (w : WfBlock b) where
   stands : found-at all (length pre) ≡ gives (b, length pre + length (encode-block b))
   unfolding found-at encode-block
   stands =
-      let l : length all ≡ length pre + (length (encode-block b) + length post) = length-append pre (encode-block b ++ post) ∙ ap (λ (n : ℕ). length pre + n) (length-append (encode-block b) post) in
+      let e = length-append (encode-block b) post in
+      let l : length all ≡ length pre + (length (encode-block b) + length post) = length-append pre (encode-block b ++ post) ∙ ap (λ (n : ℕ). length pre + n) e in
       let n : length all - length post ≡ length pre + length (encode-block b) = omega arith in
       rw (ne-eqb (length pre) (length all) (λ e. omega arith), drop-append-seam pre (encode-block b ++ post), block-at-of b post w, n)
 

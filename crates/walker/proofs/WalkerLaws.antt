@@ -236,7 +236,9 @@ module _ (s : List ℕ) (at n : ℕ) where
             let o : here .x ≡ record { text = chars (between s start end); bold = b; italic = i; code = c } = cc in
             let t : here .to ≡ drop end s = cc in
             let w : Inside s start end = subst (span-placed s) g (y .placed) in
-            let q : next - length (encode-spans (drop (suc n) (f .xs))) ≡ end = ends-before s (w .bound) (f .within) (subst (λ (l : List ℕ). After (length (encode-spans (drop (suc n) (f .xs)))) l (drop next s)) t (here .behind)) in
+            let j = length (encode-spans (drop (suc n) (f .xs))) in
+            let a : After j (drop end s) (drop next s) = subst (λ (l : List ℕ). After j l (drop next s)) t (here .behind) in
+            let q : next - j ≡ end = ends-before s (w .bound) (f .within) a in
             let (u, v) = nth-in (here .is ∙ ap gives o) in
             record { read = u; placed = v ∙ text-range-is s w q }
 

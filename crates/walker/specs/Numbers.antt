@@ -3,7 +3,7 @@
 use Prim.Native.Nat.{ℕ}
 use mathlib.Core.Option.{none, some}
 use Rattle.walker.specs.Answers.{Answer, at-end, refused, gives, BlockValues, Emphasis}
-use Rattle.walker.specs.Places.{SpanValues}
+use Rattle.walker.specs.Places.{HereValues}
 use Rattle.walker.specs.declared.BlockAnswer.{BlockAnswer}
 use Rattle.walker.specs.declared.BlockAnswer.the-variants as B
 use Rattle.walker.specs.declared.SpanAnswer.{SpanAnswer}
@@ -25,7 +25,7 @@ first-values (F.At at) = gives at
 first-values F.End = at-end
 first-values F.Bad = refused 7
 
-abbrev pub here-values : HereAnswer → Answer SpanValues
+abbrev pub here-values : HereAnswer → Answer HereValues
 here-values (H.Span b i c start end next) =
     gives (record { emphasis = record { bold = b; italic = i; code = c }; text = record { start = start; end = end }; next = next })
 here-values H.Bad = refused 7

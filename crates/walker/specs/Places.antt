@@ -67,13 +67,13 @@ unfoldable pub first-answer : List ℕ → ℕ → Answer ℕ
 first-answer s at = map (λ f. span-from (f .0 .spans) (f .1) 0) (found-at s at)
 
 -- and a span by its own offset: its emphasis, where its text stands, and the offset behind it, where the next span stands
-pub record SpanValues : Type 0 where
+pub record HereValues : Type 0 where
   pub emphasis : Emphasis
   pub text : Range
   pub next : ℕ
 
-abbrev pub span-values-of : Span → ℕ → SpanValues
-span-values-of x next = record { emphasis = emphasis-of x; text = text-range next (x .text); next = next }
+abbrev pub here-values-of : Span → ℕ → HereValues
+here-values-of x next = record { emphasis = emphasis-of x; text = text-range next (x .text); next = next }
 
-unfoldable pub here-answer : List ℕ → ℕ → Answer SpanValues
-here-answer s at = map (λ f. span-values-of (f .0) (f .1)) (placed (length s) (span-at (drop at s)))
+unfoldable pub here-answer : List ℕ → ℕ → Answer HereValues
+here-answer s at = map (λ f. here-values-of (f .0) (f .1)) (placed (length s) (span-at (drop at s)))
