@@ -1,0 +1,38 @@
+-- `text::is_utf8_from` meets its contract. The loop's invariant: whether the part from i on is UTF-8 is whether what is left is.
+-- Assumes nothing.
+use Prim.Native.Nat.{◌-◌}
+use native.Mathlib.Omega.{arith}
+use mathlib.Core.Path.{refl, sym, ◌∙◌}
+use Rattle.text.specs.Utf8.{is_utf8}
+use Rattle.text.proofs.Laws.{Step, advance_end, no_char, some_char, stuck, scalar_is}
+use Rattle.text.proofs.decoding.is_utf8_from.Goals as goal
+use Rattle.text.proofs.decoding.is_utf8_from.Goals.{Else-n-eq0}
+
+pub loop-j-init : goal.loop-j-init
+loop-j-init c = (refl, omega arith)
+
+pub char_size-n-requires : goal.char_size-n-requires
+char_size-n-requires c = omega arith
+
+pub returns-then-n-eq0 : goal.returns-then-n-eq0
+unfolding is_utf8
+returns-then-n-eq0 c = sym (c.loop-j.invariant.0 ∙ stuck _ _ c.loop-j-test.true (no_char c.args.s.now c.loop-j.j (sym c.char_size-n.ensures ∙ c.if-n-eq0.true)))
+
+-- the step over a character
+step : (c : Else-n-eq0) → (x : _) × Step c.args.s.now c.loop-j.j x c.char_size-n.result
+step c = some_char _ _ _ c.char_size-n.ensures c.if-n-eq0.false
+
+pub overflow_add-j : goal.overflow_add-j
+overflow_add-j c = let h = (step c).1 in omega arith
+
+pub loop-j-smaller : goal.loop-j-smaller
+loop-j-smaller c = let h = (step c).1 in omega arith
+
+pub loop-j-preserved : goal.loop-j-preserved
+loop-j-preserved c =
+    let h = (step c).1 in
+    (c.loop-j.invariant.0 ∙ rw (h.rest, scalar_is _ h.scalar), h.bound)
+
+pub returns : goal.returns
+unfolding is_utf8
+returns c = sym (c.loop-j.invariant.0 ∙ rw (advance_end _ _ c.loop-j-test.false))

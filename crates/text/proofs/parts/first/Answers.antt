@@ -1,0 +1,81 @@
+-- `text::first` meets its contract. The loop's invariant: byte i is where character k stands.
+-- Assumes nothing.
+use Prim.Native.Nat.{◌-◌, ◌+◌}
+use native.Mathlib.Omega.{arith}
+use mathlib.Core.Path.{◌≡◌, sym, ap, ◌∙◌}
+use lib.ListN.{length, length-drop, drop}
+use lib.Seq.{length-take-le, take_all}
+use Rattle.text.specs.Utf8.{chars, encode}
+use Rattle.text.proofs.Laws.{Next, next_is, Pos, pos_zero, pos_next, encode_chars, chars_length}
+use Rattle.text.proofs.AsciiLaws.{pos_ascii}
+use Rattle.text.proofs.parts.first.Goals as goal
+use Rattle.text.proofs.parts.first.Goals.{After-ascii_step-w, After-size_at-i}
+
+-- the step over a character that is not ASCII
+step : (c : After-size_at-i) → Next c.args.s.now c.loop-k.i c.size_at-i.result
+step c = rw c.size_at-i.ensures (next_is _ _ (let h = c.loop-k.invariant.0.bound in omega arith))
+
+-- the ASCII that a turn passes over
+passed : (c : After-ascii_step-w) → Pos c.args.s.now (c.loop-k.i + c.ascii_step-w.result) (c.loop-k.k + c.ascii_step-w.result)
+passed c = pos_ascii _ _ _ _ c.loop-k.invariant.0 (let h = c.ascii_step-w.ensures.1.1 in omega arith) c.ascii_step-w.ensures.0
+
+pub loop-k-init : goal.loop-k-init
+loop-k-init c = (pos_zero _, omega arith)
+
+pub overflow_sub-most : goal.overflow_sub-most
+overflow_sub-most c = omega arith
+
+pub overflow_sub-s : goal.overflow_sub-s
+overflow_sub-s c = c.loop-k.invariant.0.bound
+
+pub returns-then-s-i : goal.returns-then-s-i
+returns-then-s-i c =
+    let s = c.args.s.now in 
+    let p = c.loop-k.invariant.0 in 
+    let b = p.bound in
+    let h = chars_length (drop c.loop-k.i s) in
+    let d = length-drop c.loop-k.i s in
+    let e = length-drop c.loop-k.k (chars s) in
+    let q = ap length p.left in
+    sym (ap encode (take_all c.args.n (chars s) (omega arith)) ∙ encode_chars s)
+
+pub bounds-s-i : goal.bounds-s-i
+bounds-s-i c = let h = c.loop-k.invariant.0.bound in omega arith
+
+pub ascii_step-w-requires : goal.ascii_step-w-requires
+ascii_step-w-requires c =
+    let b = c.loop-k.invariant.0.bound in 
+    (c.if-s-i-lt128.true, (omega arith, omega arith))
+
+pub overflow_add-k : goal.overflow_add-k
+overflow_add-k c = let h = c.ascii_step-w.ensures.1.1 in omega arith
+
+pub overflow_add-i : goal.overflow_add-i
+overflow_add-i c = let h = (passed c).bound in omega arith
+
+pub loop-k-smaller-then-s-i-lt128 : goal.loop-k-smaller-then-s-i-lt128
+loop-k-smaller-then-s-i-lt128 c = let h = c.ascii_step-w.ensures.1 in omega (arith, h.0, h.1)
+
+pub loop-k-preserved-then-s-i-lt128 : goal.loop-k-preserved-then-s-i-lt128
+loop-k-preserved-then-s-i-lt128 c = let h = c.ascii_step-w.ensures.1.1 in (passed c, omega arith)
+
+pub overflow_add-i-in-loop-k : goal.overflow_add-i-in-loop-k
+overflow_add-i-in-loop-k c = let h = step c in omega (arith, h.bound)
+
+pub overflow_add-k-in-loop-k : goal.overflow_add-k-in-loop-k
+overflow_add-k-in-loop-k c = omega arith
+
+pub loop-k-smaller : goal.loop-k-smaller
+loop-k-smaller c = omega arith
+
+pub loop-k-preserved : goal.loop-k-preserved
+loop-k-preserved c = (pos_next _ _ _ _ c.loop-k.invariant.0 (step c), omega arith)
+
+pub slice_bounds-result-end : goal.slice_bounds-result-end
+slice_bounds-result-end c = sym (length-take-le _ _ c.loop-k.invariant.0.bound)
+
+pub returns : goal.returns
+returns c =
+    let v = c.loop-k.invariant in 
+    let q : c.loop-k.k ≡ c.args.n = omega arith in
+    v.0.front ∙ rw q

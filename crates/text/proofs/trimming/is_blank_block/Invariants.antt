@@ -1,0 +1,14 @@
+-- `text::is_blank_block` meets its contract. The loop's invariant: whether the first k bytes of the block are ASCII spaces.
+-- Assumes nothing.
+use Prim.Native.Nat.{◌-◌, ◌≤◌}
+use mathlib.Core.Path.{◌≡◌}
+use lib.ListN.{take, drop}
+use Rattle.text.specs.Words.{all}
+use Rattle.text.specs.Trim.{is_blank}
+use Rattle.text.proofs.trimming.is_blank_block.Given as goal
+
+abbrev pub invariant-loop-k : goal.invariant-loop-k
+invariant-loop-k l = (l.blank ≡ all is_blank (take l.k (drop l.i l.s))) × (l.k ≤ 32)
+
+abbrev pub decreases-loop-k : goal.decreases-loop-k
+decreases-loop-k l = 32 - l.k
