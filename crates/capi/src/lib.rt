@@ -19,7 +19,7 @@ use walker::SpanAnswer;
 
 // What a call that writes answers: document 01's number, 0 for success, and how many bytes of the result it wrote.
 #[repr(C)]
-#[derive(Drop)]
+#[derive(Clone, Copy)]
 pub struct Written {
     pub number: u32,
     pub length: usize,
@@ -78,7 +78,7 @@ pub extern "C" fn rn_blocks(markdown: &[u8], work: &mut [u8], res: &mut [u8]) ->
 
 // A block: kind 0 is the end of the records, 1 a heading, 2 a paragraph, 3 an item. Where number is not 0, all else is 0.
 #[repr(C)]
-#[derive(Drop)]
+#[derive(Clone, Copy)]
 pub struct BlockAt {
     pub number: u32,
     pub kind: u32,
@@ -90,7 +90,7 @@ pub struct BlockAt {
 
 // A span's emphasis: kind 0 is the end of the block's spans, 1 a span.
 #[repr(C)]
-#[derive(Drop)]
+#[derive(Clone, Copy)]
 pub struct SpanAt {
     pub number: u32,
     pub kind: u32,
@@ -101,7 +101,7 @@ pub struct SpanAt {
 
 // Where the first span of a block stands; 0 at the end of the records.
 #[repr(C)]
-#[derive(Drop)]
+#[derive(Clone, Copy)]
 pub struct FirstAt {
     pub number: u32,
     pub at: usize,
@@ -109,7 +109,7 @@ pub struct FirstAt {
 
 // A span by its own offset: its emphasis, its text, and where the next span stands.
 #[repr(C)]
-#[derive(Drop)]
+#[derive(Clone, Copy)]
 pub struct HereAt {
     pub number: u32,
     pub bold: u32,
@@ -122,7 +122,7 @@ pub struct HereAt {
 
 // A part of the records.
 #[repr(C)]
-#[derive(Drop)]
+#[derive(Clone, Copy)]
 pub struct Part {
     pub start: usize,
     pub length: usize,
@@ -130,7 +130,7 @@ pub struct Part {
 
 // A section, a part of the records: found is 1, or 0 where no heading has the title.
 #[repr(C)]
-#[derive(Drop)]
+#[derive(Clone, Copy)]
 pub struct SectionAt {
     pub number: u32,
     pub found: u32,
@@ -140,7 +140,7 @@ pub struct SectionAt {
 
 // The sheet test's answer: yes is 1 or 0, with both counts.
 #[repr(C)]
-#[derive(Drop)]
+#[derive(Clone, Copy)]
 pub struct Tested {
     pub number: u32,
     pub yes: u32,

@@ -18,7 +18,7 @@ use page::convert;
 pub use words::special;
 
 // What `html_to_markdown` answers: the Markdown's length, or why there is none.
-#[derive(Drop)]
+#[derive(Clone, Copy)]
 pub enum Answer {
     Length(usize),
     NotUtf8,
@@ -28,7 +28,7 @@ pub enum Answer {
 }
 
 // The tag whose text is being skipped.
-#[derive(Drop)]
+#[derive(Clone, Copy)]
 pub enum Skip {
     Nothing,
     Script,
@@ -37,7 +37,7 @@ pub enum Skip {
 
 // The state: how many bytes of the lent output are written, how many lists are open, their numbers (0 for `ul`, for `ol` one more than the
 // items begun; the output is full before one of them has 2 ^ 16), and three flags.
-#[derive(Drop)]
+#[derive(Clone, Copy)]
 pub struct Converter {
     pub len: usize,
     pub depth: usize,
@@ -48,7 +48,7 @@ pub struct Converter {
 }
 
 // The tags that only write.
-#[derive(Drop)]
+#[derive(Clone, Copy)]
 pub enum Step {
     Heading(usize),
     Block,
@@ -64,7 +64,7 @@ pub enum Step {
 }
 
 // What a tag's name says: a list (ordered or not), a tag whose text is skipped, or one that only writes.
-#[derive(Drop)]
+#[derive(Clone, Copy)]
 pub enum Tag {
     Listing(bool),
     Skipped(Skip),
@@ -72,14 +72,14 @@ pub enum Tag {
 }
 
 // A tag step's answer: the state, or a refusal where 64 lists are open already.
-#[derive(Drop)]
+#[derive(Clone, Copy)]
 pub struct Tagged {
     pub ok: bool,
     pub state: Converter,
 }
 
 // What a turn over a page leaves: whether it was accepted, where the next turn starts, and the state.
-#[derive(Drop)]
+#[derive(Clone, Copy)]
 pub struct Turned {
     pub ok: bool,
     pub next: usize,

@@ -13,7 +13,7 @@ use crate::output::{copy_char, ends_digit, line_start, push, put_char, spaced};
 use reference::Ampersand;
 
 // Where text is written: the output's length, a pending space, and whether nothing of this text has been written yet.
-#[derive(Drop)]
+#[derive(Clone, Copy)]
 pub struct Pen {
     pub len: usize,
     pub space: bool,
@@ -21,7 +21,7 @@ pub struct Pen {
 }
 
 // A character of text, and where the next one starts.
-#[derive(Drop)]
+#[derive(Clone, Copy)]
 pub struct Piece {
     pub code: u32,
     pub next: usize,
@@ -204,7 +204,7 @@ fn blanks_end(raw: &[u8], i: usize) -> usize
 }
 
 // A pen, and where the text goes on.
-#[derive(Drop)]
+#[derive(Clone, Copy)]
 pub struct Inked {
     pub pen: Pen,
     pub next: usize,

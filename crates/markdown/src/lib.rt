@@ -19,7 +19,7 @@ use crate::reader::{flush, read_line};
 use crate::writer::State;
 
 // What `blocks` answers.
-#[derive(Drop)]
+#[derive(Clone, Copy)]
 pub enum Answer {
     // The length of the records.
     Length(usize),

@@ -7,7 +7,7 @@ ghost use Rattle.text.specs.Part.{between, Inside};
 ghost use Rattle.markdown.specs.Parts.{source, text_of, quiet, CommentedIs, LineIs};
 
 // A line: a part of the Markdown, or, where a comment was removed from it, of the work buffer; and where the next line starts.
-#[derive(Drop)]
+#[derive(Clone, Copy)]
 pub struct Line {
     pub copied: bool,
     pub from: usize,

@@ -10,7 +10,7 @@ ghost use Rattle.text.specs.Utf8.{chars};
 ghost use Rattle.text.specs.Trim.{start_of};
 
 // Where a part starts and ends.
-#[derive(Drop)]
+#[derive(Clone, Copy)]
 pub struct Range {
     pub from: usize,
     pub to: usize,
@@ -139,7 +139,7 @@ pub(crate) fn is_rule(line: &[u8]) -> bool
 }
 
 // What a trimmed line that starts with `#` is.
-#[derive(Drop)]
+#[derive(Clone, Copy)]
 pub enum Title {
     // A heading: its level, and where its text starts and ends.
     Named(usize, usize, usize),
@@ -164,7 +164,7 @@ pub(crate) fn heading(line: &[u8]) -> Title
 }
 
 // An item's depth, where its digits start and end, and where its text does.
-#[derive(Drop)]
+#[derive(Clone, Copy)]
 pub enum Marker {
     At(usize, usize, usize, usize, usize),
     Unmarked,

@@ -14,7 +14,7 @@ use spans::Written;
 
 // Where the records end. Whether the last block is an item, and then its record's start and map byte, where its span count goes and how
 // many spans it has. The paragraph that is open: a part of the Markdown or of the work buffer, empty where none is open.
-#[derive(Drop)]
+#[derive(Clone, Copy)]
 pub struct State {
     pub at: usize,
     pub item: bool,

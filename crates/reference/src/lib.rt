@@ -8,7 +8,7 @@ ghost use Rattle.reference.specs.Answers.{answer, value};
 use text::Found;
 
 // What becomes of an `&`.
-#[derive(Drop)]
+#[derive(Clone, Copy)]
 pub enum Ampersand {
     // It starts a reference: the character that this stands for, and how many bytes after the `&` it has.
     Replaced(u32, usize),
@@ -17,7 +17,7 @@ pub enum Ampersand {
 }
 
 // What a name stands for.
-#[derive(Drop)]
+#[derive(Clone, Copy)]
 enum Value {
     Is(u32),
     Nothing,

@@ -11,7 +11,7 @@ mod titles;
 use libc::{STDIN_FILENO, STDOUT_FILENO};
 
 // How many cases were run, and how many of them differ.
-#[derive(Drop)]
+#[derive(Clone, Copy)]
 struct Count {
     run: usize,
     differ: usize,

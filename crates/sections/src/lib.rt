@@ -44,7 +44,7 @@ fn is_titled(records: &[u8], at: usize, count: usize, title: &[u8]) -> bool
 }
 
 // The first heading with the title: where it stands, its level, and where the block after it stands. Bad is number 7.
-#[derive(Drop)]
+#[derive(Clone, Copy)]
 pub(crate) enum HeadingAnswer {
     At {
         start: usize,
@@ -84,7 +84,7 @@ fn heading_at(records: &[u8], title: &[u8]) -> HeadingAnswer
 }
 
 // Where a section of a level ends: at the first heading, from an offset on, of the same or a smaller level, or at the records' end.
-#[derive(Drop)]
+#[derive(Clone, Copy)]
 pub(crate) enum EndAnswer {
     At(usize),
     Bad,
@@ -119,7 +119,7 @@ fn end_at(records: &[u8], from: usize, level: usize) -> EndAnswer
 }
 
 // Where the first section whose heading has the title stands in the records. Bad is number 7: the records are broken somewhere.
-#[derive(Drop)]
+#[derive(Clone, Copy)]
 pub enum SectionAnswer {
     At { start: usize, end: usize },
     Missing,

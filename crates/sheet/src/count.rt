@@ -3,13 +3,13 @@ ghost use Rattle.std.specs.Prelude.{◌≡◌, ◌+◌, min};
 ghost use Rattle.sheet.specs.Weight.{alike, added};
 
 // How many bytes and characters a written form has, each at most MOST.
-#[derive(Drop)]
+#[derive(Clone, Copy)]
 pub struct Count {
     pub bytes: usize,
     pub chars: usize,
 }
 
-#[derive(Drop)]
+#[derive(Clone, Copy)]
 pub enum Read {
     // What was read ends before next, and its written form has these counts.
     At { next: usize, count: Count },

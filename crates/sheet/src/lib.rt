@@ -16,7 +16,7 @@ use count::{Count, Read, add, ascii};
 use line::{line, nl};
 use list::outermost;
 
-#[derive(Drop)]
+#[derive(Clone, Copy)]
 pub enum Verdict {
     // A sheet, and how many bytes and characters its written form has.
     Yes { bytes: usize, chars: usize },

@@ -12,7 +12,7 @@ ghost use Rattle.sheet.specs.Keeps.{Spelt, gist, pushed, Scanned, kind_of, suits
 use crate::count::{Count, Read, add, ascii};
 
 // A character of text: the one it stands for, and where the next begins.
-#[derive(Drop)]
+#[derive(Clone, Copy)]
 pub enum Glyph {
     At { code: u32, next: usize },
     No,
@@ -20,7 +20,7 @@ pub enum Glyph {
 
 // What is kept of a text: the counts of its written form, whether it has a character, its first and its last one (32 where there is none), whether
 // no two bytes 32 stand together, and whether none of its characters is one to be escaped.
-#[derive(Drop)]
+#[derive(Clone, Copy)]
 pub struct Gist {
     pub count: Count,
     pub any: bool,
@@ -31,13 +31,13 @@ pub struct Gist {
 }
 
 // A text that ends before next.
-#[derive(Drop)]
+#[derive(Clone, Copy)]
 pub struct Passage {
     pub next: usize,
     pub gist: Gist,
 }
 
-#[derive(Drop)]
+#[derive(Clone, Copy)]
 pub enum Kind {
     Plain,
     Strong,
@@ -46,7 +46,7 @@ pub enum Kind {
     Code,
 }
 
-#[derive(Drop)]
+#[derive(Clone, Copy)]
 pub enum OneRun {
     At { next: usize, kind: Kind, gist: Gist },
     No,
@@ -54,7 +54,7 @@ pub enum OneRun {
 
 // What is kept of the runs of a line: the counts of their written form, the last one's kind, whether there is one, whether no two touch that must not,
 // whether the first character is a letter, and whether the last is another than 32.
-#[derive(Drop)]
+#[derive(Clone, Copy)]
 pub struct Runs {
     pub count: Count,
     pub last: Kind,

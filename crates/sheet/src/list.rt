@@ -13,7 +13,7 @@ ghost use Rattle.sheet.specs.Forms.{row_lead, item_form, list_form, mark_of, Beg
 use crate::count::{Count, Read, add, ascii, sum};
 use crate::line::{line, nl};
 
-#[derive(Drop)]
+#[derive(Clone, Copy)]
 pub enum Opening {
     List { ordered: bool },
     No,

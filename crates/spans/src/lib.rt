@@ -11,7 +11,7 @@ use records::writer::{put, put_bytes, put_head, span_map};
 use text::{Found, byte};
 
 // The place of a link's `]`, and of its `)`.
-#[derive(Drop)]
+#[derive(Clone, Copy)]
 enum Link {
     Ends(usize, usize),
     Nothing,
@@ -119,7 +119,7 @@ fn either(a: bool, b: bool) -> bool
 
 // Where the walk is: the next byte of the line; where the pending span's record starts, how long its text is, and how many spans
 // stand before it; and the emphasis. The pending text is stored behind a gap of five bytes for its head, which is stored when the span ends.
-#[derive(Drop)]
+#[derive(Clone, Copy)]
 struct State {
     pub i: usize,
     pub at: usize,
@@ -130,7 +130,7 @@ struct State {
 }
 
 // Where the records end, and how many there are.
-#[derive(Drop)]
+#[derive(Clone, Copy)]
 pub struct Written {
     pub next: usize,
     pub count: usize,

@@ -106,7 +106,7 @@ fn code_or_stray(a: u32, b: u32, c: u32, d: u32) -> u32
 }
 
 // Four bytes, with 0 for each that is not there.
-#[derive(Drop)]
+#[derive(Clone, Copy)]
 pub(crate) struct Four {
     pub(crate) a: u32,
     pub(crate) b: u32,

@@ -16,7 +16,7 @@ pub use search::{comment_end, find, starts_with};
 pub use trimming::{end_of, start_of, trim};
 
 // What stands at an offset of a byte slice.
-#[derive(Drop)]
+#[derive(Clone, Copy)]
 pub enum Char {
     // A character and its size in bytes.
     At(u32, usize),
@@ -27,7 +27,7 @@ pub enum Char {
 }
 
 // Where something is found.
-#[derive(Drop)]
+#[derive(Clone, Copy)]
 pub enum Found {
     Here(usize),
     Nowhere,

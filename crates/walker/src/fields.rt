@@ -6,7 +6,7 @@ ghost use Rattle.records.specs.Decode.{u16, u32};
 ghost use Rattle.walker.specs.Readers.{NumberIs};
 
 // A number, and the offset after it.
-#[derive(Drop)]
+#[derive(Clone, Copy)]
 pub(crate) enum Number {
     Value { value: usize, next: usize },
     Bad,

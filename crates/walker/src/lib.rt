@@ -14,7 +14,7 @@ mod reader;
 use crate::reader::{Kind, SpanRead, SpansEnd, Whole, span_read, spans_end, whole_at};
 
 // What the walker finds at an offset. Bad is number 7.
-#[derive(Drop)]
+#[derive(Clone, Copy)]
 pub enum BlockAnswer {
     Heading {
         level: usize,
@@ -85,7 +85,7 @@ pub fn is_whole(records: &[u8], from: usize) -> bool
 }
 
 // Where a part of the records stands.
-#[derive(Drop)]
+#[derive(Clone, Copy)]
 pub struct Range {
     pub start: usize,
     pub end: usize,
@@ -126,7 +126,7 @@ pub fn marker_at(records: &[u8], at: usize) -> &[u8]
 }
 
 // A span of a block, with its text's place.
-#[derive(Drop)]
+#[derive(Clone, Copy)]
 pub(crate) enum Nth {
     At {
         bold: bool,
@@ -180,7 +180,7 @@ fn nth_at(s: &[u8], at: usize, n: usize) -> Nth
 }
 
 // What the walker finds of a span. Bad is number 7.
-#[derive(Drop)]
+#[derive(Clone, Copy)]
 pub enum SpanAnswer {
     Span {
         bold: bool,
@@ -238,7 +238,7 @@ pub fn text_at(records: &[u8], at: usize, n: usize) -> &[u8]
 // span by its own offset, which the span before it gives: that takes time in proportion to the block.
 
 // Where the first span of a block stands; where there is none, the block's end. Bad is number 7.
-#[derive(Drop)]
+#[derive(Clone, Copy)]
 pub enum FirstAnswer {
     At(usize),
     End,
@@ -265,7 +265,7 @@ pub fn first_at(records: &[u8], at: usize) -> FirstAnswer
 
 // A span by its own offset: its emphasis, where its text starts and ends, and where the next span stands, or the next block behind the
 // last span. Bad is number 7.
-#[derive(Drop)]
+#[derive(Clone, Copy)]
 pub enum HereAnswer {
     Span {
         bold: bool,
@@ -302,7 +302,7 @@ pub fn here_at(records: &[u8], at: usize) -> HereAnswer
 }
 
 // The walker: the lent records and an offset. Its functions take it apart and call those above.
-#[derive(Drop)]
+#[derive(Clone, Copy)]
 pub struct Walker<'a> {
     pub records: &'a [u8],
     pub at: usize,

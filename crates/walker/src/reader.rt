@@ -6,7 +6,7 @@ ghost use Rattle.walker.specs.Readers.{NumberIs, PartIs, SpanIs, span_with, EndI
 use crate::fields::{Number, is_marker, u16_at, u32_at, wide};
 
 // A part of the records.
-#[derive(Drop)]
+#[derive(Clone, Copy)]
 enum Part {
     At { start: usize, end: usize },
     Bad,
@@ -34,7 +34,7 @@ fn text_read(s: &[u8], at: usize) -> Part
 }
 
 // A span's emphasis, and where its text starts and ends. The next span starts where the text ends.
-#[derive(Drop)]
+#[derive(Clone, Copy)]
 pub(crate) enum SpanRead {
     At {
         bold: bool,
@@ -83,7 +83,7 @@ pub(crate) fn span_read(s: &[u8], at: usize) -> SpanRead
 }
 
 // Where n spans end.
-#[derive(Drop)]
+#[derive(Clone, Copy)]
 pub(crate) enum SpansEnd {
     At { next: usize },
     Bad,
@@ -113,7 +113,7 @@ pub(crate) fn spans_end(s: &[u8], at: usize, n: usize) -> SpansEnd
 }
 
 // The fields that a block's kind has. A marker's text is a part of the records.
-#[derive(Drop)]
+#[derive(Clone, Copy)]
 pub(crate) enum Kind {
     Heading {
         level: usize,
@@ -126,7 +126,7 @@ pub(crate) enum Kind {
     },
 }
 
-#[derive(Drop)]
+#[derive(Clone, Copy)]
 enum KindRead {
     At { kind: Kind, next: usize },
     Bad,
@@ -229,7 +229,7 @@ fn count_at(s: &[u8], at: usize, counted: bool) -> Number
 }
 
 // A whole block: its kind, its span count, where its spans start, and where the next block starts.
-#[derive(Drop)]
+#[derive(Clone, Copy)]
 pub(crate) enum Whole {
     At {
         kind: Kind,
