@@ -1,0 +1,18 @@
+-- `plain_end` meets its contract: what was passed is text.
+-- Assumes nothing.
+use Prim.Native.Nat.{◌-◌}
+use borrow.Author.Tests.{not-false}
+use Rattle.spans.proofs.Marks.{plain_start, plain_next}
+use Rattle.spans.proofs.plain_end.Goals as goal
+
+pub loop-j-init : goal.loop-j-init
+loop-j-init c = plain_start _ _ c.requires
+
+pub returns-then-not-is_plain : goal.returns-then-not-is_plain
+returns-then-not-is_plain c = c.loop-j.invariant
+
+pub loop-j-preserved : goal.loop-j-preserved
+loop-j-preserved c = plain_next _ _ _ c.loop-j.invariant c.loop-j-test.true (rw (not-false c.is_plain.result c.if-not-is_plain.false-raw) at c.is_plain.ensures)
+
+pub returns : goal.returns
+returns c = c.loop-j.invariant
