@@ -1,0 +1,59 @@
+-- `markdown::lines::next_line` meets its contract.
+-- Assumes nothing.
+use Rattle.markdown.proofs.Reading.{quiet_passed, passing_other, passed_break, passed_end, passed_comment}
+use lib.ListN.{length}
+use native.Mathlib.Omega.{arith}
+use mathlib.Core.Path.{refl, sym, ap, ◌∙◌}
+use Prim.Native.Nat.{◌-◌}
+use Rattle.markdown.proofs.lines.next_line.Goals as goal
+
+pub loop-j-init : goal.loop-j-init
+loop-j-init c = (quiet_passed _ _ _ c.requires.0 c.quiet_blocks-j.ensures, refl)
+
+pub bounds-markdown-j : goal.bounds-markdown-j
+bounds-markdown-j c = omega arith
+
+pub shape_of-work-then-b-eq10 : goal.shape_of-work-then-b-eq10
+shape_of-work-then-b-eq10 c = ap length c.loop-j.invariant.1
+
+pub returns-then-b-eq10 : goal.returns-then-b-eq10
+returns-then-b-eq10 c = rw c.loop-j.invariant.1 (passed_break _ _ _ c.loop-j.invariant.0 _ c.loop-j-test.true c.if-b-eq10.true)
+
+pub slice_bounds-put_bytes-count : goal.slice_bounds-put_bytes-count
+slice_bounds-put_bytes-count c = c.loop-j.invariant.0.low
+
+pub slice_bounds-put_bytes-start : goal.slice_bounds-put_bytes-start
+slice_bounds-put_bytes-start c = c.loop-j.invariant.0.low
+
+pub slice_bounds-put_bytes-end : goal.slice_bounds-put_bytes-end
+slice_bounds-put_bytes-end c = c.loop-j.invariant.0.bound
+
+pub overflow_sub-j : goal.overflow_sub-j
+overflow_sub-j c = c.loop-j.invariant.0.low
+
+pub commented-requires : goal.commented-requires
+commented-requires c = (c.loop-j.invariant.0.bound, (omega arith, omega (arith, c.put_bytes.auto.out, ap length c.loop-j.invariant.1, c.requires.1)))
+
+pub shape_of-work-then-stands_at : goal.shape_of-work-then-stands_at
+shape_of-work-then-stands_at c = omega (arith, c.commented.auto.work, c.put_bytes.auto.out, ap length c.loop-j.invariant.1)
+
+pub returns-then-stands_at : goal.returns-then-stands_at
+returns-then-stands_at c = passed_comment _ _ _ c.loop-j.invariant.0 _ _ _ _ _ c.requires.1 c.loop-j.invariant.1 c.put_bytes.ensures c.commented.ensures
+
+pub overflow_add-j : goal.overflow_add-j
+overflow_add-j c = omega arith
+
+pub loop-j-smaller : goal.loop-j-smaller
+loop-j-smaller c = omega arith
+
+pub loop-j-preserved : goal.loop-j-preserved
+loop-j-preserved c = (passing_other _ _ _ c.loop-j.invariant.0 c.loop-j-test.true c.if-b-eq10.false (sym c.stands_at.ensures ∙ c.if-stands_at.false), c.loop-j.invariant.1)
+
+pub overflow_add-result-2 : goal.overflow_add-result-2
+overflow_add-result-2 c = omega (arith, c.loop-j.invariant.0.bound)
+
+pub shape_of-work : goal.shape_of-work
+shape_of-work c = ap length c.loop-j.invariant.1
+
+pub returns : goal.returns
+returns c = rw c.loop-j.invariant.1 (passed_end _ _ _ c.loop-j.invariant.0 _ c.loop-j-test.false)

@@ -1,0 +1,21 @@
+-- `markdown::flush` meets its contract.
+-- Assumes nothing.
+use Rattle.markdown.proofs.StateLaws.{safe_inside, safe_small, flush_none, flush_text}
+use native.Mathlib.Omega.{arith}
+use Rattle.markdown.proofs.reader.flush.Goals as goal
+
+pub returns-then-s : goal.returns-then-s
+returns-then-s c = flush_none _ _ _ _ c.requires.0 c.if-s.true
+
+pub text_of-text-requires : goal.text_of-text-requires
+text_of-text-requires c = safe_inside _ _ c.args.s c.requires.0
+
+pub put_paragraph-p-requires : goal.put_paragraph-p-requires
+put_paragraph-p-requires c =
+    let u = c.requires.0 in
+    (omega (arith, c.requires.1), omega (arith, safe_small _ _ c.args.s _ u c.text_of-text.ensures))
+
+pub returns : goal.returns
+returns c =
+    let e = c.put_paragraph-p.ensures in
+    flush_text _ _ _ _ _ _ _ c.requires.0 c.text_of-text.ensures c.if-s.false e.0 e.1

@@ -1,0 +1,45 @@
+-- `markdown::shape::all_ruled` meets its contract. The loop's invariant: from j on all bytes are ruled if all are.
+-- Assumes nothing.
+use Rattle.markdown.proofs.RuleLaws.{ruled, ruled_next, ruled_stop, ruled_run}
+use Rattle.text.specs.Words.{all}
+use lib.ListN.{drop, drop_of_length-le}
+use borrow.Author.Tests.{not-true, not-false}
+use native.Mathlib.Omega.{arith}
+use mathlib.Core.Path.{◌≡◌, refl, sym, ap, ◌∙◌}
+use Prim.Native.Nat.{◌+◌, ◌-◌}
+use Rattle.markdown.proofs.shape.all_ruled.Goals as goal
+use Rattle.markdown.proofs.shape.all_ruled.Goals.{Else-not-is_ruled}
+
+pub loop-j-init : goal.loop-j-init
+loop-j-init c = (refl, omega arith)
+
+pub bounds-line-j : goal.bounds-line-j
+bounds-line-j c = c.loop-j-test.true
+
+pub returns-then-not-is_ruled : goal.returns-then-not-is_ruled
+returns-then-not-is_ruled c = sym (sym c.loop-j.invariant.0 ∙ ruled_stop _ _ c.loop-j-test.true (sym c.is_ruled.ensures ∙ not-true _ c.if-not-is_ruled.true-raw))
+
+pub overflow_add-j : goal.overflow_add-j
+overflow_add-j c = omega arith
+
+-- the byte at j is passed
+one : (c : Else-not-is_ruled) → all ruled (drop (c.loop-j.j + 1) c.args.line.now) ≡ all ruled (drop c.args.i c.args.line.now)
+one c = sym (ruled_next _ _ c.loop-j-test.true (sym c.is_ruled.ensures ∙ not-false _ c.if-not-is_ruled.false-raw)) ∙ c.loop-j.invariant.0
+
+pub ruled_blocks-j-requires : goal.ruled_blocks-j-requires
+ruled_blocks-j-requires c = omega (arith, c.loop-j-test.true)
+
+pub loop-j-smaller-then-j-eq0 : goal.loop-j-smaller-then-j-eq0
+loop-j-smaller-then-j-eq0 c = omega (arith, c.ruled_blocks-j.ensures.low, c.ruled_blocks-j.ensures.high)
+
+pub loop-j-preserved-then-j-eq0 : goal.loop-j-preserved-then-j-eq0
+loop-j-preserved-then-j-eq0 c = (sym (ruled_run _ _ _ c.ruled_blocks-j.ensures) ∙ one (goal.at.loop-j-preserved-then-j-eq0 c).Else-not-is_ruled, c.ruled_blocks-j.ensures.high)
+
+pub loop-j-smaller : goal.loop-j-smaller
+loop-j-smaller c = omega arith
+
+pub loop-j-preserved : goal.loop-j-preserved
+loop-j-preserved c = (one (goal.at.loop-j-preserved c).Else-not-is_ruled, omega arith)
+
+pub returns : goal.returns
+returns c = sym (ap (all ruled) (drop_of_length-le c.args.line.now c.loop-j-test.false)) ∙ c.loop-j.invariant.0

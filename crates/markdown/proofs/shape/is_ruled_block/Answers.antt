@@ -1,0 +1,32 @@
+-- `markdown::shape::is_ruled_block` meets its contract. The loop's invariant: whether the first k bytes of the block are ruled.
+-- Assumes nothing.
+use Prim.Native.Nat.{◌-◌}
+use native.Mathlib.Omega.{arith}
+use mathlib.Core.Path.{◌≡◌, refl, ◌∙◌}
+use Rattle.text.proofs.RunLaws.{block_next}
+use Rattle.markdown.proofs.RuleLaws.{ruled}
+use Rattle.markdown.proofs.shape.is_ruled_block.Goals as goal
+
+pub loop-k-init : goal.loop-k-init
+loop-k-init c = (refl, omega arith)
+
+pub overflow_add-b : goal.overflow_add-b
+overflow_add-b c = omega arith
+
+pub bounds-line-i : goal.bounds-line-i
+bounds-line-i c = omega arith
+
+pub overflow_add-k : goal.overflow_add-k
+overflow_add-k c = omega arith
+
+pub loop-k-smaller : goal.loop-k-smaller
+loop-k-smaller c = omega arith
+
+pub loop-k-preserved : goal.loop-k-preserved
+loop-k-preserved c =
+    let a = c.args in
+    let l = c.loop-k in
+    (rw c.is_ruled-ruled.ensures (block_next ruled a.line.now a.i l.k _ (omega arith) l.invariant.0), omega arith)
+
+pub returns : goal.returns
+returns c = let q : c.loop-k.k ≡ 32 = omega arith in c.loop-k.invariant.0 ∙ rw q

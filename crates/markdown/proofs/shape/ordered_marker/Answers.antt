@@ -1,0 +1,29 @@
+-- `markdown::shape::ordered_marker` meets its contract.
+-- Assumes nothing.
+use Rattle.markdown.proofs.ShapeLaws.{digits_in, ordinal_none, ordinal_many, ordinal_other, ordinal_inside, ordinal_is}
+use Rattle.text.proofs.TrimLaws.{start_le}
+use borrow.Author.Tests.{not-true, not-false}
+use native.Mathlib.Omega.{arith}
+use mathlib.Core.Path.{sym, ◌∙◌}
+use Rattle.markdown.proofs.shape.ordered_marker.Goals as goal
+
+pub digits_end-stop-requires : goal.digits_end-stop-requires
+digits_end-stop-requires c = omega (arith, c.requires.0, start_le c.args.line.now)
+
+pub returns-then-stop-at : goal.returns-then-stop-at
+returns-then-stop-at c = ordinal_none _ _ c.requires.0 c.requires.1 _ c.digits_end-stop.ensures c.if-stop-at.true
+
+pub returns-then-stop-at-gt9 : goal.returns-then-stop-at-gt9
+returns-then-stop-at-gt9 c = ordinal_many _ _ c.requires.0 c.requires.1 _ c.digits_end-stop.ensures c.if-stop-at-gt9.true
+
+pub returns-then-not-starts_with : goal.returns-then-not-starts_with
+returns-then-not-starts_with c = ordinal_other _ _ c.requires.0 c.requires.1 _ c.digits_end-stop.ensures (sym c.starts_with.ensures ∙ not-true _ c.if-not-starts_with.true-raw)
+
+pub overflow_add-stop : goal.overflow_add-stop
+overflow_add-stop c = omega (arith, digits_in _ _ c.requires.0 c.requires.1 _ c.digits_end-stop.ensures)
+
+pub trimmed-t-requires : goal.trimmed-t-requires
+trimmed-t-requires c = ordinal_inside _ _ c.requires.0 c.requires.1 _ c.digits_end-stop.ensures (sym c.starts_with.ensures ∙ not-false _ c.if-not-starts_with.false-raw)
+
+pub returns : goal.returns
+returns c = ordinal_is _ _ c.requires.0 c.requires.1 _ c.digits_end-stop.ensures (sym c.starts_with.ensures ∙ not-false _ c.if-not-starts_with.false-raw) _ c.if-stop-at.false c.if-stop-at-gt9.false c.trimmed-t.ensures
