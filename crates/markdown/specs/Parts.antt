@@ -1,6 +1,6 @@
 -- What the block reader's offsets mean: parts of the Markdown and of the work buffer, and the lines of a text without comments.
 -- Assumes nothing.
-use Rattle.std.specs.Prelude.{ℕ, ◌+◌, ◌-◌, ◌≤◌, ◌<◌, Bool, true, false, not, ◌&&◌, List, ◌++◌, ◌≡◌, length, take, drop, eqb}
+use Rattle.std.specs.Prelude.{ℕ, ◌+◌, ◌≤◌, ◌<◌, Bool, true, false, not, ◌&&◌, List, ◌++◌, ◌≡◌, length, take, drop, eqb}
 use Rattle.text.specs.Find.{until, since}
 use Rattle.text.specs.Part.{between}
 use Rattle.markdown.specs.Blocks.{cleaned}

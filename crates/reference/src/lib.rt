@@ -1,4 +1,6 @@
 // Character references: what stands between an `&` and a `;`, by `unescape` of notes.rs.
+#![tactic(auto)]
+
 ghost use Rattle.std.specs.Prelude.{◌≤◌, ◌≡◌, length, take, drop};
 ghost use Rattle.text.specs.Words.{same};
 ghost use Rattle.text.specs.Utf8.{chars};

@@ -11,7 +11,7 @@ use lib.ListN.{length, set, take, drop, get_or, length-append, length-drop, leng
 use lib.Seq.{sets, drop-cons, drop-drop, length-sets}
 use Rattle.text.proofs.Lists.{drop_next}
 use Rattle.records.specs.Blocks.{Span}
-use Rattle.spans.specs.Spans.{Walk, at, flush, step, carry, walk, spans}
+use Rattle.spans.specs.Spans.{Walk, flush, step, carry, walk, spans}
 use Rattle.spans.specs.Turn.{Turn, linked, turned, records_of}
 use Rattle.spans.specs.State.{head, pend, push_of, push_all_of, TextAt, PlainTo, flush_of, link_by, link_to, link_head, Ready, walk_of, turn_at, state_after, Made}
 use Rattle.spans.specs.declared.State.{State}

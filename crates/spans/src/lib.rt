@@ -1,4 +1,6 @@
 // The spans of a line: bold, italic, code, links and images, read from the line's bytes and written as records.
+#![tactic(auto)]
+
 ghost use Rattle.std.specs.Prelude.{◌≡◌, ◌+◌, ◌*◌, ◌^◌, ◌-◌, ◌≤◌, ◌<◌, Bool, true, false, ◌||◌, length, set, get_or, take, drop, eqb};
 ghost use Rattle.std.proofs.lemmas.List.Edits.{sets};
 ghost use Rattle.records.specs.Format.{span_map, encode_spans};

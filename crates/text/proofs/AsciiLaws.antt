@@ -1,6 +1,6 @@
 -- What is ASCII is the same in bytes and in characters.
 -- Assumes nothing.
-use Prim.Native.Nat.{ℕ, zero, suc, ◌+◌, ◌-◌, ◌≤◌, ◌<◌}
+use Prim.Native.Nat.{ℕ, zero, suc, ◌+◌, ◌≤◌, ◌<◌}
 use mathlib.Core.Bool.{Bool, true, false, ◌&&◌}
 use mathlib.Core.List.{List, [], ◌∷◌, ◌++◌}
 use mathlib.Core.Logic.{⊎_elim}
@@ -16,7 +16,7 @@ use Rattle.text.specs.Utf8.{encode, chars, char, size_of, size}
 use Rattle.text.specs.Words.{starts_with, all}
 use Rattle.text.specs.Run.{RunTo}
 use Rattle.text.specs.Chars.{is_digit, is_ascii, is_scalar, Ascii}
-use Rattle.text.proofs.Tests.{decide, on, and_true, and_false, false_true, within_above}
+use Rattle.text.proofs.Tests.{decide, and_true, and_false, false_true, within_above}
 use Rattle.text.proofs.Utf8.{utf8_1, char_1, char_ascii}
 use Rattle.text.proofs.Laws.{Next, next_is, Pos, pos_next, chars_nil, chars_at, size_encode}
 use Rattle.text.proofs.RunLaws.{run_same}

@@ -1,4 +1,6 @@
 // Text as UTF-8 bytes.
+#![tactic(auto)]
+
 mod ascii;
 mod beside;
 mod classes;

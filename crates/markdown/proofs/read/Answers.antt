@@ -7,7 +7,6 @@ use borrow.Author.Tests.{eqb-true}
 use Rattle.text.proofs.Tests.{and_true}
 use native.Mathlib.Omega.{arith}
 use mathlib.Core.Path.{◌∙◌}
-use Prim.Native.Nat.{◌-◌}
 use Rattle.markdown.proofs.read.Goals as goal
 
 pub loop-i-init : goal.loop-i-init

@@ -25,21 +25,18 @@ returns-in_default c =
 
 pub returns-then-not-is_scalar : goal.returns-then-not-is_scalar
 returns-then-not-is_scalar c =
-    
     sym
     (ap value
     (number_no_scalar c.args.name.now _ (number_of (goal.at.returns-then-not-is_scalar c).In-Is) (sym c.is_scalar.ensures ∙ not-true c.is_scalar.result c.if-not-is_scalar.true-raw)))
 
 pub returns-then-is_control : goal.returns-then-is_control
 returns-then-is_control c =
-    
     sym
     (ap value
     (number_control c.args.name.now _ (number_of (goal.at.returns-then-is_control c).In-Is) (scalar (goal.at.returns-then-is_control c).Else-not-is_scalar) (sym c.is_control.ensures ∙ c.if-is_control.true)))
 
 pub returns : goal.returns
 returns c =
-    
     sym
     (ap value
     (number_is c.args.name.now _ (number_of (goal.at.returns c).In-Is) (scalar (goal.at.returns c).Else-not-is_scalar) (sym c.is_control.ensures ∙ c.if-is_control.false)))

@@ -17,7 +17,7 @@ use Rattle.reference.proofs.reference.Goals.{In-Here}
 -- the `;` that was found
 semicolon : (c : In-Here) → Near (drop c.args.i c.args.s.now) c.in-Here.n
 semicolon c =
-    let b = c.args in 
+    let b = c.args in
     near_some (drop b.i b.s.now) c.in-Here.n
     (ap (λ (l : List ℕ). index (59 ∷ []) l) (sym c.near-next.ensures) ∙ found_first _ _ (sym c.find.ensures ∙ c.in-Here.is))
 

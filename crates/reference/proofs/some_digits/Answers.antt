@@ -36,8 +36,7 @@ digit-d-requires c = tt
 
 pub returns-then-radix-d : goal.returns-then-radix-d
 returns-then-radix-d c =
-    
-    let a = c.args in 
+    let a = c.args in
     sym
     (ap value
     (more_digits a.radix a.s.now a.i c.if-s-i.false
@@ -58,8 +57,7 @@ loop-j-smaller c = omega arith
 
 pub loop-j-preserved : goal.loop-j-preserved
 loop-j-preserved c =
-    
-    let a = c.args in 
+    let a = c.args in
     let v = c.loop-j.invariant in (
       v.0 ∙ digits_next a.radix c.loop-j.v a.s.now c.loop-j.j c.digit-d.result c.loop-j-test.true c.digit-d.ensures c.if-radix-d.false,
       (omega arith, next_room c),
@@ -67,7 +65,7 @@ loop-j-preserved c =
 
 pub returns : goal.returns
 returns c =
-    let a = c.args in 
+    let a = c.args in
     sym
     (ap value
     (more_digits a.radix a.s.now a.i c.if-s-i.false

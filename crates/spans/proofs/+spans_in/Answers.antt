@@ -4,13 +4,11 @@ use mathlib.Core.Path.{refl, sym, ap, ◌∙◌}
 use Prim.Native.Nat.{◌+◌, ◌-◌}
 use native.Mathlib.Omega.{arith}
 use lib.ListN.{take, drop, length-take, length-drop}
-use borrow.Fn.PlainCycle.{is}
 use Rattle.spans.specs.declared.State.{State}
 use Rattle.spans.proofs.Search.{known_none, link_found, unlinked}
 use Rattle.spans.proofs.Marks.{open_none}
 use Rattle.spans.proofs.Made.{made_as, push_made}
 use Rattle.spans.proofs.Loop.{start, ready, finish, label_made, label_few, pend_small, bounds, same_long, advanced, pushed_on}
-use Rattle.spans.proofs.+spans_in.Tie.{close}
 use Rattle.spans.proofs.+spans_in.Goals as goal
 
 pub loop-w-init : goal.loop-w-init

@@ -4,7 +4,6 @@ use Rattle.text.proofs.CloseLaws.{end_bounds}
 use Rattle.markdown.proofs.Reading.{copying_none, copied_break, copied_end, copied_comment, copied_other}
 use native.Mathlib.Omega.{arith}
 use mathlib.Core.Path.{sym, ◌∙◌}
-use Prim.Native.Nat.{◌-◌}
 use Rattle.markdown.proofs.lines.commented.Goals as goal
 
 pub loop-j-init : goal.loop-j-init

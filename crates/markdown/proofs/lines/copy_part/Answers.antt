@@ -2,7 +2,6 @@
 -- Assumes nothing.
 use Rattle.markdown.proofs.ParagraphLaws.{copies_none, copies_more, copies_all}
 use native.Mathlib.Omega.{arith}
-use Prim.Native.Nat.{◌-◌}
 use Rattle.markdown.proofs.lines.copy_part.Goals as goal
 
 pub overflow_sub-n : goal.overflow_sub-n

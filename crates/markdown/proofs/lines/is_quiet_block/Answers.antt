@@ -1,6 +1,5 @@
 -- `markdown::lines::is_quiet_block` meets its contract. The loop's invariant: whether the first k bytes of the block are quiet.
 -- Assumes nothing.
-use Prim.Native.Nat.{◌-◌}
 use native.Mathlib.Omega.{arith}
 use mathlib.Core.Path.{◌≡◌, refl, ◌∙◌}
 use Rattle.text.proofs.RunLaws.{block_next}

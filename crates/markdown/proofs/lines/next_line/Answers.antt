@@ -4,7 +4,6 @@ use Rattle.markdown.proofs.Reading.{quiet_passed, passing_other, passed_break, p
 use lib.ListN.{length}
 use native.Mathlib.Omega.{arith}
 use mathlib.Core.Path.{refl, sym, ap, ◌∙◌}
-use Prim.Native.Nat.{◌-◌}
 use Rattle.markdown.proofs.lines.next_line.Goals as goal
 
 pub loop-j-init : goal.loop-j-init

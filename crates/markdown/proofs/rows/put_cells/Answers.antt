@@ -2,7 +2,6 @@
 -- Assumes nothing.
 use Rattle.markdown.proofs.CellFill.{filling_none, bar_in, filling_dot, filling_other, filling_end}
 use native.Mathlib.Omega.{arith}
-use Prim.Native.Nat.{◌-◌}
 use Rattle.markdown.proofs.rows.put_cells.Goals as goal
 
 pub loop-i-init : goal.loop-i-init

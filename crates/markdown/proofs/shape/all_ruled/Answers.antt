@@ -6,7 +6,7 @@ use lib.ListN.{drop, drop_of_length-le}
 use borrow.Author.Tests.{not-true, not-false}
 use native.Mathlib.Omega.{arith}
 use mathlib.Core.Path.{◌≡◌, refl, sym, ap, ◌∙◌}
-use Prim.Native.Nat.{◌+◌, ◌-◌}
+use Prim.Native.Nat.{◌+◌}
 use Rattle.markdown.proofs.shape.all_ruled.Goals as goal
 use Rattle.markdown.proofs.shape.all_ruled.Goals.{Else-not-is_ruled}
 

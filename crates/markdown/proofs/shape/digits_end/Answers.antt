@@ -5,7 +5,6 @@ use Rattle.text.proofs.RunLaws.{at_start, past_one, at_stop, at_end}
 use borrow.Author.Tests.{not-true, not-false}
 use native.Mathlib.Omega.{arith}
 use mathlib.Core.Path.{sym, ◌∙◌}
-use Prim.Native.Nat.{◌-◌}
 use Rattle.markdown.proofs.shape.digits_end.Goals as goal
 
 pub loop-j-init : goal.loop-j-init

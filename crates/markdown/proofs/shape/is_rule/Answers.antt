@@ -6,7 +6,6 @@ use borrow.Author.Tests.{not-true, not-false}
 use native.Mathlib.Omega.{arith}
 use mathlib.Core.Path.{refl, sym, ◌∙◌}
 use mathlib.Core.Bool.{false}
-use Prim.Native.Nat.{◌-◌}
 use Rattle.markdown.proofs.shape.is_rule.Goals as goal
 
 pub returns-then-line-lt3 : goal.returns-then-line-lt3

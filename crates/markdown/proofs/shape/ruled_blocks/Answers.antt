@@ -1,6 +1,5 @@
 -- `markdown::shape::ruled_blocks` meets its contract. The loop's invariant: what it passed is ruled.
 -- Assumes nothing.
-use Prim.Native.Nat.{◌-◌}
 use native.Mathlib.Omega.{arith}
 use mathlib.Core.Path.{sym, ◌∙◌}
 use borrow.Author.Tests.{not-false}

@@ -1,6 +1,6 @@
 -- `writer::put_bytes`: what is left to store from here on makes the same list as the whole from the start.
 -- Assumes nothing.
-use Prim.Native.Nat.{ℕ, ◌+◌, ◌-◌}
+use Prim.Native.Nat.{ℕ, ◌+◌}
 use native.Mathlib.Nat.{add-zero}
 use native.Mathlib.Omega.{arith}
 use mathlib.Core.Path.{refl, sym, ap, ◌∙◌}
@@ -32,12 +32,12 @@ loop-i-smaller c = omega (arith, c.loop-i-test.true)
 
 pub loop-i-preserved : goal.loop-i-preserved
 loop-i-preserved c =
-    let a = c.args in 
-    let l = c.loop-i in 
+    let a = c.args in
+    let l = c.loop-i in
     (sets_next l.out a.s.now a.at l.i (omega (arith, c.loop-i-test.true, c.least-n.ensures)) ∙ l.invariant.0, length-set l.out (a.at + l.i) _ ∙ l.invariant.1)
 
 pub returns : goal.returns
 returns c =
-    let a = c.args in 
-    let l = c.loop-i in 
+    let a = c.args in
+    let l = c.loop-i in
     sym (sets_rest l.out a.s.now a.at l.i (omega (arith, c.loop-i-test.false, c.least-n.ensures, l.invariant.1))) ∙ l.invariant.0

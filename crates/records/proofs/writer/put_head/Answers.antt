@@ -10,12 +10,12 @@ use Rattle.records.proofs.writer.put_head.Goals as goal
 
 pub returns-then-out-at : goal.returns-then-out-at
 returns-then-out-at c =
-    let a = c.args in 
+    let a = c.args in
     sym (sets_out a.out.now a.at (a.map ∷ le32 a.n) c.if-out-at.true)
 
 pub returns : goal.returns
 returns c =
-    let a = c.args in 
+    let a = c.args in
     c.put_u32.ensures
     ∙ ap (λ (o : List ℕ). sets o (a.at + 1) (le32 a.n)) c.put.ensures
     ∙ sym (sets_append a.out.now a.at (a.map ∷ []) (le32 a.n))

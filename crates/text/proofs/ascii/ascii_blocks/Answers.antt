@@ -1,6 +1,5 @@
 -- `text::ascii_blocks` meets its contract. The invariant of both loops: what they passed is ASCII.
 -- Assumes nothing.
-use Prim.Native.Nat.{◌-◌}
 use native.Mathlib.Omega.{arith}
 use mathlib.Core.Path.{sym, ◌∙◌}
 use borrow.Author.Tests.{not-false}
@@ -24,7 +23,7 @@ pub loop-j-smaller : goal.loop-j-smaller
 loop-j-smaller c = let h = c.loop-j.invariant.high in omega arith
 
 pub loop-j-preserved : goal.loop-j-preserved
-loop-j-preserved c = let v = c.loop-j.invariant in 
+loop-j-preserved c = let v = c.loop-j.invariant in
     let h = v.high in
     past_block is_ascii _ _ 32 _ v (omega arith) (sym c.is_ascii_block.ensures ∙ not-false c.is_ascii_block.result c.if-not-is_ascii_block.false-raw)
 
@@ -47,7 +46,7 @@ pub loop-j-2-smaller : goal.loop-j-2-smaller
 loop-j-2-smaller c = let h = c.loop-j-2.invariant.high in omega arith
 
 pub loop-j-2-preserved : goal.loop-j-2-preserved
-loop-j-2-preserved c = let v = c.loop-j-2.invariant in 
+loop-j-2-preserved c = let v = c.loop-j-2.invariant in
     let h = v.high in
     past_block is_ascii _ _ 8 _ v (omega arith) (sym c.is_ascii_word.ensures ∙ not-false c.is_ascii_word.result c.if-not-is_ascii_word.false-raw)
 

@@ -1,6 +1,5 @@
 -- `text::is_ascii_word` meets its contract. The loop's invariant: whether the first k bytes of the block are ASCII.
 -- Assumes nothing.
-use Prim.Native.Nat.{◌-◌}
 use native.Mathlib.Omega.{arith}
 use mathlib.Core.Path.{◌≡◌, refl, ◌∙◌}
 use Rattle.text.specs.Chars.{is_ascii}
@@ -24,7 +23,7 @@ loop-k-smaller c = omega arith
 
 pub loop-k-preserved : goal.loop-k-preserved
 loop-k-preserved c =
-    let a = c.args in 
+    let a = c.args in
     (block_next is_ascii a.s.now a.i c.loop-k.k _ (omega arith) c.loop-k.invariant.0, omega arith)
 
 pub returns : goal.returns

@@ -1,6 +1,6 @@
 -- `text::is_fit_block` meets its contract. The loop's invariant: where none was found that does not fit, all from i up to i + k do.
 -- Assumes nothing.
-use Prim.Native.Nat.{◌+◌, ◌-◌}
+use Prim.Native.Nat.{◌+◌}
 use native.Mathlib.Nat.{add-zero}
 use native.Mathlib.Omega.{arith}
 use mathlib.Core.Path.{◌≡◌, sym, ◌∙◌}
@@ -43,8 +43,8 @@ loop-k-smaller c = omega arith
 
 pub loop-k-preserved : goal.loop-k-preserved
 loop-k-preserved c =
-    let a = c.args in 
-    let l = c.loop-k in 
+    let a = c.args in
+    let l = c.loop-k in
     let n : a.i + l.k + 1 ≡ a.i + (l.k + 1) = omega arith in (
       λ e.
           let q = and_true l.fit c.is_fit-fit.result e in

@@ -1,6 +1,6 @@
 -- `text::is_utf8` meets its contract. The loop's invariant: whether the whole is UTF-8 is whether what is left is.
 -- Assumes nothing.
-use Prim.Native.Nat.{◌+◌, ◌-◌}
+use Prim.Native.Nat.{◌+◌}
 use native.Mathlib.Omega.{arith}
 use mathlib.Core.Path.{refl, sym, ◌∙◌}
 use Rattle.text.specs.Chars.{is_ascii}
@@ -37,8 +37,8 @@ loop-i-smaller-then-s-i-lt128 c = omega arith
 
 pub loop-i-preserved-then-s-i-lt128 : goal.loop-i-preserved-then-s-i-lt128
 loop-i-preserved-then-s-i-lt128 c =
-    let s = c.args.s.now in 
-    let i = c.loop-i.i in 
+    let s = c.args.s.now in
+    let i = c.loop-i.i in
     (c.loop-i.invariant.0 ∙ run_to s i (i + 1) (past_one is_ascii s i i (at_start is_ascii s i (omega arith)) (omega arith) (low_ascii _ c.if-s-i-lt128.true)), omega arith)
 
 pub past_block-j-requires : goal.past_block-j-requires

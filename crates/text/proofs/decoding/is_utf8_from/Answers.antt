@@ -1,6 +1,5 @@
 -- `text::is_utf8_from` meets its contract. The loop's invariant: whether the part from i on is UTF-8 is whether what is left is.
 -- Assumes nothing.
-use Prim.Native.Nat.{◌-◌}
 use native.Mathlib.Omega.{arith}
 use mathlib.Core.Path.{refl, sym, ◌∙◌}
 use Rattle.text.specs.Utf8.{is_utf8}

@@ -11,5 +11,5 @@ returns-then-s-n c = sym (ap length (cut_all _ _ c.if-s-n.true))
 
 pub returns : goal.returns
 returns c =
-    let a = c.args in 
+    let a = c.args in
     c.cut_end.ensures ∙ sym (cut_end_is a.s.now a.n (omega arith))

@@ -1,6 +1,6 @@
 -- `text::first` meets its contract. The loop's invariant: byte i is where character k stands.
 -- Assumes nothing.
-use Prim.Native.Nat.{◌-◌, ◌+◌}
+use Prim.Native.Nat.{◌+◌}
 use native.Mathlib.Omega.{arith}
 use mathlib.Core.Path.{◌≡◌, sym, ap, ◌∙◌}
 use lib.ListN.{length, length-drop, drop}
@@ -30,8 +30,8 @@ overflow_sub-s c = c.loop-k.invariant.0.bound
 
 pub returns-then-s-i : goal.returns-then-s-i
 returns-then-s-i c =
-    let s = c.args.s.now in 
-    let p = c.loop-k.invariant.0 in 
+    let s = c.args.s.now in
+    let p = c.loop-k.invariant.0 in
     let b = p.bound in
     let h = chars_length (drop c.loop-k.i s) in
     let d = length-drop c.loop-k.i s in
@@ -44,7 +44,7 @@ bounds-s-i c = let h = c.loop-k.invariant.0.bound in omega arith
 
 pub ascii_step-w-requires : goal.ascii_step-w-requires
 ascii_step-w-requires c =
-    let b = c.loop-k.invariant.0.bound in 
+    let b = c.loop-k.invariant.0.bound in
     (c.if-s-i-lt128.true, (omega arith, omega arith))
 
 pub overflow_add-k : goal.overflow_add-k
@@ -76,6 +76,6 @@ slice_bounds-result-end c = sym (length-take-le _ _ c.loop-k.invariant.0.bound)
 
 pub returns : goal.returns
 returns c =
-    let v = c.loop-k.invariant in 
+    let v = c.loop-k.invariant in
     let q : c.loop-k.k ≡ c.args.n = omega arith in
     v.0.front ∙ rw q

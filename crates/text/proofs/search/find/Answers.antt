@@ -1,6 +1,5 @@
 -- `text::find` meets its contract. The invariant of both loops: what was passed is not b.
 -- Assumes nothing.
-use Prim.Native.Nat.{◌-◌}
 use native.Mathlib.Omega.{arith}
 use mathlib.Core.Path.{sym}
 use Rattle.text.specs.Run.{other}

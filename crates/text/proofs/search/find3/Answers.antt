@@ -1,6 +1,6 @@
 -- `text::find3` meets its contract. The loop's invariant: the three bytes stand at no place from i up to j.
 -- Assumes nothing.
-use Prim.Native.Nat.{◌+◌, ◌-◌}
+use Prim.Native.Nat.{◌+◌}
 use native.Mathlib.Omega.{arith}
 use mathlib.Core.List.{[], ◌∷◌}
 use mathlib.Core.Path.{sym, ◌∙◌}
@@ -23,8 +23,8 @@ is_free_block-requires c = let h = c.loop-j.invariant.high in omega arith
 
 -- the block that a turn passes
 passed : (c : Then-is_free_block)
-    → 
-    let a = c.args in 
+    →
+    let a = c.args in
     SeekTo (a.a ∷ a.b ∷ a.c ∷ []) a.s.now c.loop-j.j (c.loop-j.j + 32)
 passed c = c.is_free_block.ensures c.if-is_free_block.true
 
@@ -42,7 +42,7 @@ is_here-requires c = let h = c.loop-j.invariant.high in omega arith
 
 pub returns-then-is_here : goal.returns-then-is_here
 returns-then-is_here c =
-    let inv = c.loop-j.invariant in 
+    let inv = c.loop-j.invariant in
     let h = inv.high in
     seek_found _ _ _ _ _ inv (omega arith) c.is_here.ensures c.if-is_here.true
 
@@ -54,7 +54,7 @@ loop-j-smaller c = let h = c.loop-j.invariant.high in omega arith
 
 pub loop-j-preserved : goal.loop-j-preserved
 loop-j-preserved c =
-    let inv = c.loop-j.invariant in 
+    let inv = c.loop-j.invariant in
     let h = inv.high in
     seek_not _ _ _ _ _ inv (omega arith) c.is_here.ensures c.if-is_here.false
 

@@ -1,6 +1,6 @@
 -- `text::find3_near` meets its contract. The loop's invariant: the three bytes stand at no place from i up to j.
 -- Assumes nothing.
-use Prim.Native.Nat.{◌+◌, ◌-◌}
+use Prim.Native.Nat.{◌+◌}
 use native.Mathlib.Omega.{arith}
 use mathlib.Core.List.{[], ◌∷◌}
 use mathlib.Core.Path.{sym, ◌∙◌}
@@ -23,13 +23,12 @@ bounds-s-j c = let h = c.loop-j.invariant.high in omega arith
 
 -- the three places that a turn passes
 apart : (c : Then-is_none_of)
-    → 
-    let a = c.args in 
+    →
+    let a = c.args in
     SeekTo (a.a ∷ a.b ∷ a.c ∷ []) a.s.now c.loop-j.j (c.loop-j.j + 3)
 apart c =
-    
-    let a = c.args in 
-    let h = c.loop-j.invariant.high in 
+    let a = c.args in
+    let h = c.loop-j.invariant.high in
     three_apart a.s.now a.a a.b a.c c.loop-j.j (omega arith) _ c.is_none_of.ensures c.if-is_none_of.true
 
 pub overflow_add-j-then-is_none_of : goal.overflow_add-j-then-is_none_of
@@ -46,7 +45,7 @@ is_here-requires c = let h = c.loop-j.invariant.high in omega arith
 
 pub returns-then-is_here : goal.returns-then-is_here
 returns-then-is_here c =
-    let inv = c.loop-j.invariant in 
+    let inv = c.loop-j.invariant in
     let h = inv.high in
     seek_found _ _ _ _ _ inv (omega arith) c.is_here.ensures c.if-is_here.true
 
@@ -58,13 +57,12 @@ loop-j-smaller c = let h = c.loop-j.invariant.high in omega arith
 
 pub loop-j-preserved : goal.loop-j-preserved
 loop-j-preserved c =
-    let inv = c.loop-j.invariant in 
+    let inv = c.loop-j.invariant in
     let h = inv.high in
     seek_not _ _ _ _ _ inv (omega arith) c.is_here.ensures c.if-is_here.false
 
 pub returns : goal.returns
 returns c =
-    
-    let a = c.args in 
-    let h = c.loop-j.invariant.high in 
+    let a = c.args in
+    let h = c.loop-j.invariant.high in
     sym (c.loop-j.invariant.same ∙ none_left a.a _ a.s.now c.loop-j.j (omega arith))

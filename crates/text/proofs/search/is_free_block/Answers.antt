@@ -1,6 +1,6 @@
 -- `text::is_free_block` meets its contract. The loop's invariant: where none was found, there is none from i up to i + k.
 -- Assumes nothing.
-use Prim.Native.Nat.{◌+◌, ◌-◌}
+use Prim.Native.Nat.{◌+◌}
 use native.Mathlib.Nat.{add-zero}
 use native.Mathlib.Omega.{arith}
 use mathlib.Core.Path.{◌≡◌}
@@ -40,8 +40,8 @@ loop-k-smaller c = omega arith
 
 pub loop-k-preserved : goal.loop-k-preserved
 loop-k-preserved c =
-    let a = c.args in 
-    let l = c.loop-k in 
+    let a = c.args in
+    let l = c.loop-k in
     let n : a.i + l.k + 1 ≡ a.i + (l.k + 1) = omega arith in (
       λ e.
           let q = and_true l.free _ e in

@@ -1,6 +1,5 @@
 -- `text::is_other_block` meets its contract. The loop's invariant: whether the first k bytes of the block are others.
 -- Assumes nothing.
-use Prim.Native.Nat.{◌-◌}
 use native.Mathlib.Omega.{arith}
 use mathlib.Core.Path.{◌≡◌, refl, ◌∙◌}
 use Rattle.text.specs.Run.{other}
@@ -25,7 +24,7 @@ loop-k-smaller c = omega arith
 pub loop-k-preserved : goal.loop-k-preserved
 unfolding other
 loop-k-preserved c =
-    let a = c.args in 
+    let a = c.args in
     (block_next (other a.b) a.s.now a.i c.loop-k.k _ (omega arith) c.loop-k.invariant.0, omega arith)
 
 pub returns : goal.returns

@@ -1,6 +1,5 @@
 -- `text::other_blocks` meets its contract. The loop's invariant: what it passed is not b.
 -- Assumes nothing.
-use Prim.Native.Nat.{◌-◌}
 use native.Mathlib.Omega.{arith}
 use mathlib.Core.Path.{sym, ◌∙◌}
 use borrow.Author.Tests.{not-false}
@@ -28,7 +27,7 @@ loop-j-smaller c = let h = c.loop-j.invariant.high in omega arith
 
 pub loop-j-preserved : goal.loop-j-preserved
 loop-j-preserved c =
-    let v = c.loop-j.invariant in 
+    let v = c.loop-j.invariant in
     let h = v.high in
     past_block (other _) _ _ 32 _ v (omega arith) (sym c.is_other_block.ensures ∙ not-false c.is_other_block.result c.if-not-is_other_block.false-raw)
 

@@ -2,7 +2,6 @@
 -- Assumes nothing.
 use native.Mathlib.Omega.{arith}
 use mathlib.Core.Path.{sym, ◌∙◌}
-use Prim.Native.Nat.{◌-◌}
 use native.Mathlib.Nat.{add-zero}
 use lib.ListN.{drop, length-drop, drop_of_length-le}
 use Rattle.text.proofs.AsciiLaws.{starts_nil, starts_short, starts_next, starts_other}

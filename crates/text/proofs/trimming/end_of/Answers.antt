@@ -36,13 +36,13 @@ loop-e-smaller-then-is_blank c = omega arith
 
 pub loop-e-preserved-then-is_blank : goal.loop-e-preserved-then-is_blank
 loop-e-preserved-then-is_blank c =
-    let v = c.loop-e.invariant in 
+    let v = c.loop-e.invariant in
     let y = blank_yes _ (sym c.is_blank.ensures ∙ c.if-is_blank.true) in
     (sym (end_low_space c.args.s.now c.loop-e.e (omega arith) v.1 y.0 y.1) ∙ v.0, omega arith)
 
 pub returns-then-b-lt128 : goal.returns-then-b-lt128
 returns-then-b-lt128 c =
-    let v = c.loop-e.invariant in 
+    let v = c.loop-e.invariant in
     sym (end_at _ _ v.1 (sym v.0 ∙ end_low_other c.args.s.now c.loop-e.e (omega arith) v.1 c.if-b-lt128.true (blank_no _ c.if-b-lt128.true (sym c.is_blank.ensures ∙ c.if-is_blank.false))))
 
 pub space_before-k-requires : goal.space_before-k-requires
@@ -50,7 +50,7 @@ space_before-k-requires c = (omega arith, (omega arith, omega arith))
 
 pub returns-then-k-eq0 : goal.returns-then-k-eq0
 returns-then-k-eq0 c =
-    let v = c.loop-e.invariant in 
+    let v = c.loop-e.invariant in
     sym (end_at _ _ v.1 (sym v.0 ∙ end_other _ _ v.1 (sym c.space_before-k.ensures ∙ c.if-k-eq0.true)))
 
 pub overflow_sub-e-in-loop-e : goal.overflow_sub-e-in-loop-e
@@ -64,5 +64,5 @@ loop-e-preserved c = (sym (gone c).1 ∙ c.loop-e.invariant.0, omega arith)
 
 pub returns : goal.returns
 returns c =
-    let v = c.loop-e.invariant in 
+    let v = c.loop-e.invariant in
     sym (end_at _ _ v.1 (sym v.0 ∙ end_nil c.args.s.now c.loop-e.e (omega arith)))

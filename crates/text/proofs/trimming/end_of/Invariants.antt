@@ -1,6 +1,6 @@
 -- `text::end_of` meets its contract. The loop's invariant: the first e bytes trim to what all trim to.
 -- Assumes nothing.
-use Prim.Native.Nat.{◌≤◌, ◌-◌}
+use Prim.Native.Nat.{◌≤◌}
 use mathlib.Core.Path.{◌≡◌}
 use lib.ListN.{length, take}
 use Rattle.text.specs.Utf8.{chars}

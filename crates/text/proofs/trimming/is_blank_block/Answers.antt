@@ -1,6 +1,5 @@
 -- `text::is_blank_block` meets its contract. The loop's invariant: whether the first k bytes of the block are ASCII spaces.
 -- Assumes nothing.
-use Prim.Native.Nat.{◌-◌}
 use native.Mathlib.Omega.{arith}
 use mathlib.Core.Path.{◌≡◌, refl, ◌∙◌}
 use Rattle.text.specs.Trim.{is_blank}
@@ -24,8 +23,8 @@ loop-k-smaller c = omega arith
 
 pub loop-k-preserved : goal.loop-k-preserved
 loop-k-preserved c =
-    let a = c.args in 
-    let l = c.loop-k in 
+    let a = c.args in
+    let l = c.loop-k in
     (rw c.is_blank-blank.ensures (block_next is_blank a.s.now a.i l.k _ (omega arith) l.invariant.0), omega arith)
 
 pub returns : goal.returns

@@ -1,6 +1,6 @@
 -- `text::past_blank` meets its contract. The loop's invariant: what it passed are ASCII spaces.
 -- Assumes nothing.
-use Prim.Native.Nat.{◌+◌, ◌-◌}
+use Prim.Native.Nat.{◌+◌}
 use native.Mathlib.Omega.{arith}
 use mathlib.Core.Path.{sym, ◌∙◌}
 use borrow.Author.Tests.{not-false}
@@ -39,7 +39,7 @@ pub loop-j-smaller : goal.loop-j-smaller
 loop-j-smaller c = let h = c.loop-j.invariant.0.high in omega arith
 
 pub loop-j-preserved : goal.loop-j-preserved
-loop-j-preserved c = let v = c.loop-j.invariant in 
+loop-j-preserved c = let v = c.loop-j.invariant in
     let h = v.0.high in
     (past_block is_blank _ _ 32 _ v.0 (omega arith) (sym c.is_blank_block.ensures ∙ not-false c.is_blank_block.result c.if-not-is_blank_block.false-raw), omega (arith, v.1))
 

@@ -1,6 +1,6 @@
 -- `text::start_of` meets its contract. The loop's invariant: what is left from i on trims to what all trims to.
 -- Assumes nothing.
-use Prim.Native.Nat.{◌+◌, ◌-◌, ◌≤◌}
+use Prim.Native.Nat.{◌+◌, ◌≤◌}
 use native.Mathlib.Omega.{arith}
 use mathlib.Core.Path.{◌≡◌, refl, sym, ◌∙◌}
 use lib.ListN.{length, drop}
@@ -33,7 +33,7 @@ wide_space-k-requires c = c.loop-i-test.true
 
 pub returns-then-k-eq0 : goal.returns-then-k-eq0
 returns-then-k-eq0 c =
-    let v = c.loop-i.invariant in 
+    let v = c.loop-i.invariant in
     sym (start_at _ _ v.1 (sym v.0 ∙ none_gone c.args.s.now c.loop-i.i c.loop-i-test.true (sym c.is_blank.ensures ∙ c.if-is_blank.false) (sym c.wide_space-k.ensures ∙ c.if-k-eq0.true)))
 
 -- the space that a turn takes off
@@ -54,5 +54,5 @@ loop-i-preserved c = (sym (gone c).1 ∙ c.loop-i.invariant.0, (gone c).0)
 pub returns : goal.returns
 unfolding drop_while
 returns c =
-    let v = c.loop-i.invariant in 
+    let v = c.loop-i.invariant in
     sym (start_at _ _ v.1 (sym v.0 ∙ rw (advance_end _ _ c.loop-i-test.false)))

@@ -15,7 +15,7 @@ use Rattle.text.proofs.trimming.trim.Goals.{After-start_of-a}
 started : (c : After-start_of-a)
     → take (length c.args.s.now - c.start_of-a.result) (drop c.start_of-a.result c.args.s.now) ≡ encode (trim_start (chars c.args.s.now))
 started c =
-    let s = c.args.s.now in 
+    let s = c.args.s.now in
     rw (take_all (length s - c.start_of-a.result) (drop c.start_of-a.result s) (omega (arith, length-drop c.start_of-a.result s)), c.start_of-a.ensures) (drop_start s)
 
 pub slice_bounds-t-count : goal.slice_bounds-t-count
