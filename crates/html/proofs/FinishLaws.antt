@@ -127,8 +127,12 @@ call_1 page w r u = rw (decode_false page u)
 -- what a call promises, by the outcome that it has
 pub promised : (o p : Outcome) (a : Answer) (result result' work work' : List ℕ) → o ≡ p → answer_number a ≡ number p → answer_length a ≡ returned p
     → result' ≡ result_after p result → work_kept p work' ≡ work_kept p work
-    → ((answer_number a ≡ number o) × (answer_length a ≡ returned o)) × ((result' ≡ result_after o result) × (work_kept o work' ≡ work_kept o work))
-promised o p a result result' work work' e x y z v = rw e ((x, y), (z, v))
+    → record {
+      result_value : (answer_number a ≡ number o) × (answer_length a ≡ returned o);
+      res_after : result' ≡ result_after o result;
+      work_unchanged : work_kept o work' ≡ work_kept o work;
+    }
+promised o p a result result' work work' e x y z v = rw e (record { result_value = (x, y); res_after = z; work_unchanged = v })
 
 -- what is copied out
 pub notes_is : (notes trimmed work : List ℕ) (n : ℕ) → trimmed ≡ encode (trim (chars (take n work))) → notes ≡ encode (take 8000 (chars trimmed))

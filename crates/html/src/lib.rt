@@ -1,4 +1,6 @@
 // The converter: a release page, HTML, as Markdown with only headings, emphasis, code and lists.
+#![tactic(auto)]
+
 ghost use Rattle.std.specs.Prelude.{◌≡◌, ℕ, List, length};
 ghost use Rattle.html.specs.State.{new};
 ghost use Rattle.text.specs.Outcome.{number, returned, result_after, work_kept};
