@@ -49,7 +49,7 @@ module _ (Q : List ℕ → Type 0) (tail : (c : ℕ) (s : List ℕ) → Q (c ∷
   char_kept _ _ s G.blank q = past (str " ") s q
   char_kept _ _ s (G.own c h) q = tail c s q
 
-  pub many_kept : {A : Type 0} {s r : List ℕ} {xs : List A} (R : List ℕ → A → List ℕ → Type 0) → Kept R → Many R s xs r → Q s → Q r
+  pub many_kept : {A : Type 0} (R : List ℕ → A → List ℕ → Type 0) {s r : List ℕ} {xs : List A} → Kept R → Many R s xs r → Q s → Q r
   many_kept R k stop q = q
   many_kept R k (more {s} {m} {r} {x} h ms) q = many_kept R k ms (k s x m h q)
 
