@@ -18,24 +18,12 @@ returns-then-not-is_utf8 c =
 
 pub overflow_mul-n : goal.overflow_mul-n
 overflow_mul-n c =
-    let p = c.args.page.now in
-    let w = c.args.work.now in
-    let r = c.args.res.now in
-    let u = sym c.is_utf8.ensures ∙ c.if-not-is_utf8.false in
-    let n = c.cut_len-n.result in
-    let e = c.cut_len-n.ensures in
-    let k = cut_small p u n e in
+    let k = cut_small _ (sym c.is_utf8.ensures ∙ c.if-not-is_utf8.false) _ c.cut_len-n.ensures in
     omega arith
 
 pub overflow_add-n : goal.overflow_add-n
 overflow_add-n c =
-    let p = c.args.page.now in
-    let w = c.args.work.now in
-    let r = c.args.res.now in
-    let u = sym c.is_utf8.ensures ∙ c.if-not-is_utf8.false in
-    let n = c.cut_len-n.result in
-    let e = c.cut_len-n.ensures in
-    let k = cut_small p u n e in
+    let k = cut_small _ (sym c.is_utf8.ensures ∙ c.if-not-is_utf8.false) _ c.cut_len-n.ensures in
     omega arith
 
 pub returns-then-work-n : goal.returns-then-work-n

@@ -30,7 +30,8 @@ returns-else-closing-skip_no c =
     let s = state_of a.self a.out.now in
     let t = c.tag_of-tag in
     let z : skip_no a.self.skip ≡ 0 → ⊥ = λ e. c.if-skip_no-ne0.true (c.skip_no.ensures ∙ e) in
-    let h = ap₂ (λ (x y : ℕ). a.closing && eqb x y) (sym c.skip_no-then-skip_no-ne0.ensures) (sym (c.skip_no-then-skip_no-ne0-2.ensures ∙ ap skip_no c.tag_skip-named.ensures)) ∙ c.if-closing-skip_no.false in
+    let named = c.skip_no-then-skip_no-ne0-2.ensures ∙ ap skip_no c.tag_skip-named.ensures in
+    let h = ap₂ (λ (x y : ℕ). a.closing && eqb x y) (sym c.skip_no-then-skip_no-ne0.ensures) (sym named) ∙ c.if-closing-skip_no.false in
     element_stays (name_of a.name.now) s t.result t.ensures a.self.skip refl z a.closing h
 
 pub returns-then-closing-skip_no-2 : goal.returns-then-closing-skip_no-2

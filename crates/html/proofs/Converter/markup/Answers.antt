@@ -59,10 +59,14 @@ pub slice_bounds-trim-count : goal.slice_bounds-trim-count
 slice_bounds-trim-count c = past (goal.at.slice_bounds-trim-count c).In-Here
 
 pub slice_bounds-trim-start : goal.slice_bounds-trim-start
-slice_bounds-trim-start c = omega (arith, past (goal.at.slice_bounds-trim-start c).In-Here, (here (goal.at.slice_bounds-trim-start c).In-Here).bound)
+slice_bounds-trim-start c =
+    let h = (goal.at.slice_bounds-trim-start c).In-Here in
+    omega (arith, past h, (here h).bound)
 
 pub slice_bounds-trim-end : goal.slice_bounds-trim-end
-slice_bounds-trim-end c = omega (arith, past (goal.at.slice_bounds-trim-end c).In-Here, (here (goal.at.slice_bounds-trim-end c).In-Here).bound)
+slice_bounds-trim-end c =
+    let h = (goal.at.slice_bounds-trim-end c).In-Here in
+    omega (arith, past h, (here h).bound)
 
 pub inside-t-requires : goal.inside-t-requires
 inside-t-requires c = record {
@@ -78,12 +82,13 @@ overflow_add-result c =
 pub returns : goal.returns
 unfolding turned
 returns c =
+    let h = (goal.at.returns c).In-Here in
     let a = c.args in
     let m = c.starts_with in
     let e = c.in-Here.gt in
-    let read = bytes_tag a.html.now a.lt (state_of a.self a.out.now) m.result m.ensures c.requires.lt_in_bounds.0 c.requires.lt_in_bounds.1 e (here (goal.at.returns c).In-Here) in
+    let read = bytes_tag a.html.now a.lt (state_of a.self a.out.now) m.result m.ensures c.requires.lt_in_bounds.0 c.requires.lt_in_bounds.1 e (here h) in
     let made = read c.if-starts_with.false _ _ c.trim.ensures c.inside-t.ensures in
     record {
       html_after = turned_tag c.inside-t.result _ _ ∙ made;
-      lt_lt_next = (omega (arith, past (goal.at.returns c).In-Here), omega (arith, (here (goal.at.returns c).In-Here).bound));
+      lt_lt_next = (omega (arith, past h), omega (arith, (here h).bound));
     }

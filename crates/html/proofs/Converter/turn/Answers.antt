@@ -21,10 +21,14 @@ pub slice_bounds-words-count : goal.slice_bounds-words-count
 slice_bounds-words-count c = (reach (goal.at.slice_bounds-words-count c).After-text_end-lt).0
 
 pub slice_bounds-words-start : goal.slice_bounds-words-start
-slice_bounds-words-start c = omega (arith, (reach (goal.at.slice_bounds-words-start c).After-text_end-lt).0, (reach (goal.at.slice_bounds-words-start c).After-text_end-lt).1)
+slice_bounds-words-start c =
+    let h = reach (goal.at.slice_bounds-words-start c).After-text_end-lt in
+    omega arith
 
 pub slice_bounds-words-end : goal.slice_bounds-words-end
-slice_bounds-words-end c = omega (arith, (reach (goal.at.slice_bounds-words-end c).After-text_end-lt).0, (reach (goal.at.slice_bounds-words-end c).After-text_end-lt).1)
+slice_bounds-words-end c =
+    let h = reach (goal.at.slice_bounds-words-end c).After-text_end-lt in
+    omega arith
 
 pub words-c-requires : goal.words-c-requires
 words-c-requires c =

@@ -1,4 +1,4 @@
--- `copy` meets its contract. The first i bytes are copied.
+-- The loop of `copy`: the first i bytes are copied.
 -- Assumes nothing.
 use Prim.Native.Nat.{◌-◌}
 use lib.ListN.{length}

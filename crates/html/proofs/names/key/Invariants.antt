@@ -1,4 +1,4 @@
--- `key` meets its contract. What is read so far and what is left of the name give its number.
+-- The loop of `key`: what is read so far and what is left of the name give its number.
 -- Assumes nothing.
 use Prim.Native.Nat.{◌-◌}
 use lib.ListN.{length}

@@ -1,5 +1,6 @@
 -- `tag_of` meets its contract: each arm is a row of the table by its number, and the last one is for a number of no row.
 -- Assumes nothing.
+use borrow.Author.Rules.{rules}
 use Rattle.html.specs.State.{tags}
 use Rattle.html.specs.Names.{key, writing, table}
 use Rattle.html.proofs.NameLaws.{says_found, says_none}
@@ -111,4 +112,4 @@ returns-in-23200498 c = says_found _ c.key.ensures c.in-23200498.is
 
 pub returns-in_default : goal.returns-in_default
 unfolding table writing tags key
-returns-in_default c = says_none _ c.key.ensures c.in_default.in_default-own.rest
+returns-in_default c = says_none _ c.key.ensures (search rules)

@@ -1,4 +1,4 @@
--- `push_number` calls itself with the tenth part of its number.
+-- The measure of `push_number`, which calls itself with the tenth part of its number.
 -- Assumes nothing.
 use Rattle.html.proofs.output.+push_number.Given as goal
 

@@ -1,4 +1,4 @@
--- `unspaced` meets its contract. The spaces passed are those that go.
+-- The loop of `unspaced`: the spaces passed are those that go.
 -- Assumes nothing.
 use mathlib.Core.Path.{◌≡◌}
 use Rattle.html.specs.Struct.{out_of}

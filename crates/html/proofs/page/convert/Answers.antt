@@ -20,7 +20,7 @@ returns-then-c-ge-MAX_OUT c =
     let h = c.args.html.now in
     let g = l.invariant.0 in
     record {
-      out_after = going_full h l.out l.c l.at g c.if-c-ge-MAX_OUT.true;
+      out_after = going_full h l.out l.c l.at g (omega (arith, c.if-c-ge-MAX_OUT.true));
       len_in_bounds = λ e. omega (arith, len_most h l.out l.c l.at g, l.invariant.1, c.requires.0);
     }
 

@@ -1,4 +1,4 @@
--- `convert` meets its contract: from each turn on, the rest of the page makes what all of it makes.
+-- The loop of `convert`: from each turn on, the rest of the page makes what all of it makes.
 -- Assumes nothing.
 use mathlib.Core.Path.{◌≡◌}
 use Prim.Native.Nat.{◌-◌}

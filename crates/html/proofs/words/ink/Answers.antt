@@ -78,7 +78,8 @@ loop-i-preserved-then-blank c =
     let z = c.blanks_end-i.ensures in (
       λ s q.
           ink_blanks (raw_of h) s (made h s) (most h) c.loop-i.out c.loop-i.p c.pause-p.result u.next c.blanks_end-i.result
-          (ink_pause (raw_of h) s (made h s) (most h) c.loop-i.out c.loop-i.p c.loop-i.i (c.loop-i.invariant.0 s q) u c.unescaped-u.ensures c.pause-p.result (ap (λ (t : Bool). blank t u.code) q ∙ b) (e.0 s) e.1)
+          (ink_pause (raw_of h) s (made h s) (most h) c.loop-i.out c.loop-i.p c.loop-i.i (c.loop-i.invariant.0 s q) u c.unescaped-u.ensures
+          c.pause-p.result (ap (λ (t : Bool). blank t u.code) q ∙ b) (e.0 s) e.1)
           (q ∙ blank_out (pre_of h) u.code b) (e.0 s) z.0 z.1.0 z.1.1,
       c.loop-i.invariant.1,
     )

@@ -1,4 +1,4 @@
--- `ink` meets its contract: what is left of the text makes the same state.
+-- The loop of `ink`: what is left of the text makes the same state.
 -- Assumes nothing.
 use mathlib.Core.Path.{◌≡◌}
 use Prim.Native.Nat.{◌+◌, ◌-◌, ◌*◌}
@@ -11,7 +11,11 @@ use Rattle.html.proofs.words.ink.Given as goal
 
 abbrev pub invariant-loop-i : goal.invariant-loop-i
 invariant-loop-i l =
-    ((s : State) → s.pre ≡ l.pre → Inking l.raw s (put_all l.initial.p.first (unescape 0 (chars l.raw)) (pen_state s l.initial.p l.initial.out)) (l.initial.p.len + 1 + 2 * length l.raw) l.out l.p l.i) × (length l.out ≡ length l.initial.out)
+    let p₀ = l.initial.p in
+    let all = unescape 0 (chars l.raw) in
+    let most = p₀.len + 1 + 2 * length l.raw in
+    ((s : State) → s.pre ≡ l.pre → Inking l.raw s (put_all p₀.first all (pen_state s p₀ l.initial.out)) most l.out l.p l.i)
+    × (length l.out ≡ length l.initial.out)
 
 abbrev pub decreases-loop-i : goal.decreases-loop-i
 decreases-loop-i l = length l.raw - l.i

@@ -176,7 +176,10 @@ loop-i-preserved-then-special c =
     let z = sym c.special.ensures ∙ c.if-special.true in
     let n = (other_outside (at_of h) (pre_of h) (sym c.plain.ensures ∙ c.if-plain.false) c.if-b-ge128.false c.if-b-eq38.false).0 in
     wrote h _ (ascii h c.loop-i-test.true c.if-b-ge128.false c.if-b-eq38.false) c.bare-p-then-special.result _ (special_not_blank (at_of h) z (pre_of h))
-    (λ s e. special_two s c.loop-i.p c.bare-q.result c.loop-i.out _ (c.bare-q.ensures.0 s) (at_of h) z (e ∙ n) c.bare-p-then-special.result _ (c.bare-p-then-special.ensures.0 s)) c.bare-p-then-special.ensures.1 (search rules)
+    (λ s e.
+    let second = c.bare-p-then-special.ensures.0 s in
+    special_two s c.loop-i.p c.bare-q.result c.loop-i.out _ (c.bare-q.ensures.0 s) (at_of h) z (e ∙ n) c.bare-p-then-special.result _ second)
+    c.bare-p-then-special.ensures.1 (search rules)
 
 pub pause-p-requires-in-loop-i : goal.pause-p-requires-in-loop-i
 pause-p-requires-in-loop-i c =

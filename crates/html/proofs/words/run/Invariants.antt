@@ -1,4 +1,4 @@
--- The invariant of `run`.
+-- The loop of `run`: what is left of the text makes the same state, and the output does not end a line.
 -- Assumes nothing.
 use mathlib.Core.Path.{◌≡◌}
 use mathlib.Core.Bool.{Bool}
@@ -10,7 +10,7 @@ use Rattle.html.specs.Pen.{Behind, Inking}
 use Rattle.html.specs.declared.words.Pen.{Pen}
 use Rattle.html.proofs.words.run.Given as goal
 
--- what is left of the text from i on makes the state that it made from `from` on, and the output does not end a line
+-- from i on the text makes what it made from `from` on
 abbrev pub Running : List ℕ → Bool → ℕ → List ℕ → Pen → List ℕ → Pen → ℕ → Type 0
 Running raw pre from out₀ p₀ out p i =
     ((s t : State) (m : ℕ) → s.pre ≡ pre → Inking raw s t m out₀ p₀ from → Inking raw s t m out p i)
