@@ -3,12 +3,8 @@
 use Prim.Native.Nat.{ℕ, zero-le}
 use mathlib.Core.Path.{◌≡◌, refl, sym, ap, ◌∙◌}
 use mathlib.Core.Bool.{Bool, true, false}
-use mathlib.Core.Logic.{⊎_elim}
-use mathlib.Core.List.{List, [], ◌∷◌}
+use mathlib.Core.List.{List}
 use mathlib.Core.Option.{Option, none, some}
-use types.Run.{OneOf}
-use denote.Enum.Declared.{tag_of}
-use borrow.Author.Tests.{eqb-false}
 use Rattle.text.specs.Words.{case}
 use Rattle.text.specs.Part.{Inside}
 use Rattle.text.proofs.Tests.{true_false}
@@ -24,7 +20,6 @@ use Rattle.sections.specs.declared.EndAnswer.{EndAnswer}
 use Rattle.sections.specs.declared.EndAnswer.TheVariants as E
 use Rattle.sections.specs.declared.SectionAnswer.{SectionAnswer}
 use Rattle.sections.specs.declared.SectionAnswer.TheVariants as S
-use Rattle.sections.specs.contracts.SectionAnswer
 use Rattle.sections.proofs.SectionTheorems.{section_found}
 
 -- ---- `section_at`: once the end was found, all that is left is whether the rest is whole
@@ -50,9 +45,9 @@ module _ (s title : List ℕ) where
   unfolding section_range
   range_at e g = rw (← g, e)
 
-  pub range_none : (r : SectionAnswer) → OneOf (1 ∷ 2 ∷ []) (tag_of SectionAnswer.the_type r) → section_values r ≡ section_answer s title → nowhere ≡ section_range s title
+  pub range_none : (r : SectionAnswer) → ((start end : ℕ) → r ≡ S.At start end → ⊥) → section_values r ≡ section_answer s title → nowhere ≡ section_range s title
   unfolding section_range
-  range_none (S.At start end) o g = ⊎_elim (λ e. absurd (eqb-false 0 1 refl e)) (λ e. absurd (eqb-false 0 2 refl e)) o
+  range_none (S.At start end) o g = absurd (o start end refl)
   range_none S.Missing o g = rw (← g)
   range_none S.Bad o g = rw (← g)
 

@@ -10,9 +10,7 @@ use mathlib.Core.List.{List, [], ◌∷◌, ◌++◌}
 use lib.ListN.{length, drop, length-append, length-drop, drop_of_length-le}
 use lib.Seq.{drop-drop, length-take-le}
 use lib.Dec.{eqb}
-use types.Run.{OneOf}
-use denote.Enum.Declared.{tag_of}
-use borrow.Author.Tests.{eqb-true, eqb-false, eq-eqb}
+use borrow.Author.Tests.{eqb-true, eq-eqb}
 use Rattle.text.specs.Words.{same, starts_with}
 use Rattle.text.specs.Part.{between, Inside}
 use Rattle.text.specs.Utf8.{encode}
@@ -26,7 +24,6 @@ use Rattle.walker.specs.declared.FirstAnswer.{FirstAnswer}
 use Rattle.walker.specs.declared.FirstAnswer.TheVariants as F
 use Rattle.walker.specs.declared.HereAnswer.{HereAnswer}
 use Rattle.walker.specs.declared.HereAnswer.TheVariants as H
-use Rattle.walker.specs.contracts.FirstAnswer
 use Rattle.walker.proofs.SpanSteps.{SpanHere, never_bad, span_shown}
 use Rattle.sections.specs.Readers.{count_of, has_text}
 
@@ -79,16 +76,16 @@ module _ (s : List ℕ) (at : ℕ) (title : List ℕ) where
   unfolding first_answer
   meets_first h g e = first_meets h (found_at s at) refl (sym (ap first_values e) ∙ g)
 
-  no_block : (r : FirstAnswer) → OneOf (1 ∷ 2 ∷ []) (tag_of FirstAnswer.the_type r) → (a : Answer (Block × ℕ)) → first_values r ≡ map (λ f. span_from f.0.spans f.1 0) a
+  no_block : (r : FirstAnswer) → ((first : ℕ) → r ≡ F.At first → ⊥) → (a : Answer (Block × ℕ)) → first_values r ≡ map (λ f. span_from f.0.spans f.1 0) a
       → false ≡ has_text title a
   no_block r o at_end g = refl
   no_block r o (refused k) g = refl
-  no_block (F.At first) o (gives f) g = ⊎_elim (λ e. absurd (eqb-false 0 1 refl e)) (λ e. absurd (eqb-false 0 2 refl e)) o
+  no_block (F.At first) o (gives f) g = absurd (o first refl)
   no_block F.End o (gives f) g = let z : ◌≡◌ {A = ℕ} 0 1 = cc in absurd (omega arith)
   no_block F.Bad o (gives f) g = let z : ◌≡◌ {A = ℕ} 0 1 = cc in absurd (omega arith)
 
   -- where no block stands
-  pub meets_none : (r : FirstAnswer) → OneOf (1 ∷ 2 ∷ []) (tag_of FirstAnswer.the_type r) → first_values r ≡ first_answer s at → false ≡ has_text title (found_at s at)
+  pub meets_none : (r : FirstAnswer) → ((first : ℕ) → r ≡ F.At first → ⊥) → first_values r ≡ first_answer s at → false ≡ has_text title (found_at s at)
   unfolding first_answer
   meets_none r o g = no_block r o (found_at s at) g
 

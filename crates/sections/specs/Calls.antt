@@ -3,7 +3,7 @@
 -- Assumes nothing.
 use Rattle.std.specs.Prelude.{ℕ, ◌+◌, List, length}
 use Rattle.std.proofs.Math.Option.{Option, none, some}
-use Rattle.std.specs.Borrow.{GName, MutBor}
+use Rattle.std.specs.Borrow.{Bor}
 use Rattle.text.specs.Words.{◌>>=◌, case}
 use Rattle.text.specs.Part.{between}
 use Rattle.records.specs.Blocks.{Block}
@@ -33,8 +33,8 @@ section_answer s title = of_blocks (section_place title) (decode_blocks s)
 unfoldable pub section_range : List ℕ → List ℕ → Range
 section_range s title = range_or_none (λ o. case o nowhere (λ r. r)) (section_answer s title)
 
-abbrev pub section_part : MutBor (List ℕ) → List ℕ → GName → MutBor (List ℕ)
-section_part s title name = part_of s (section_range s.now title) name
+abbrev pub section_part : Bor (List ℕ) → List ℕ → Bor (List ℕ)
+section_part s title = part_of s (section_range s.now title)
 
 -- its bytes
 abbrev pub section_bytes : List ℕ → List ℕ → List ℕ

@@ -2,6 +2,8 @@
 // The records are read by the walker's public calls alone, and the proofs stand on its specs and theorems and on those of crate `records`: nothing here
 // uses the walker's inner readers. Each block is read a fixed number of times. No enum can hold a part, so where a section stands and the part itself
 // come from separate calls.
+#![tactic(auto)]
+
 ghost use Rattle.std.specs.Prelude.{◌≡◌};
 ghost use Rattle.walker.specs.Answers.{found_at, block_answer};
 ghost use Rattle.sections.specs.Calls.{section_answer, section_range, section_part, section_values};
@@ -156,7 +158,7 @@ fn section_range(records: &[u8], title: &[u8]) -> Range
 
 // The section itself, a part of the records; empty where there is none, and on 7.
 pub fn section<'a>(records: &'a [u8], title: &[u8]) -> &'a [u8]
-    ensures { result ≡ section_part records.entry title.now result.name }
+    ensures { result ≡ section_part records.entry title.now }
 {
     let range = section_range(records, title);
     let start = range.start;

@@ -6,9 +6,11 @@ use mathlib.Core.Path.{◌≡◌, refl, sym, ap, ◌∙◌}
 use mathlib.Core.Bool.{Bool, true, false, cond}
 use mathlib.Core.List.{List, [], ◌++◌}
 use mathlib.Core.Option.{Option, none, some}
-use lib.ListN.{length, drop, length-append, length-drop, drop_of_length-le}
+use lib.ListN.{length, get_or, drop, length-append, length-drop, drop_of_length-le}
 use lib.Seq.{drop-drop, drop-append_seam, take-append_seam}
 use lib.Dec.{leb, eqb}
+use mir.Val.{Fits}
+use mir.Syntax.{w8}
 use borrow.Author.Tests.{le-leb, leb-true, leb-false, eqb-true, eqb-false}
 use Rattle.text.specs.Part.{between, Inside}
 use Rattle.records.specs.Blocks.{Block}
@@ -16,7 +18,7 @@ use Rattle.records.specs.Format.{encode_block, encode_blocks, WfBlock, WfBlocks}
 use Rattle.records.specs.Decode.{Bytes, Parse, failed, parsed, only, block_at, blocks_at, decode_blocks}
 use Rattle.records.proofs.Decoded.{not_failed, bytes_drop, block_inv}
 use Rattle.records.proofs.RoundTrip.{decoded_are_records}
-use Rattle.records.proofs.DecodeSteps.{nothing_there, block_size, with_block, decode_step, decode_bad}
+use Rattle.records.proofs.DecodeSteps.{bytes_are, nothing_there, block_size, with_block, decode_step, decode_bad}
 use Rattle.records.proofs.FormatLaws.{blocks_append, wf_split}
 use Rattle.walker.specs.Answers.{Answer, at_end, refused, gives, map, BlockValues, values_of, level_of, depth_of, placed, found_at, block_answer}
 use Rattle.walker.specs.Numbers.{block_values}
@@ -172,6 +174,10 @@ module _ (s : List ℕ) (at : ℕ) where
 
   pub block_stands : {q r : BlockAnswer} → q ≡ r → block_values q ≡ block_answer s at → Bytes s → StandsAs r
   block_stands {r = r} e g w = stands_as r (ap block_values (sym e) ∙ g) w
+
+  -- and where all that is known of the records is their type, that of a lent slice of bytes
+  pub stands_here : ((i : ℕ) → Fits w8 (get_or s i 0)) → {q r : BlockAnswer} → q ≡ r → block_values q ≡ block_answer s at → StandsAs r
+  stands_here w e g = block_stands e g (bytes_are s w)
 
 -- ---- the part of the records that some of their blocks are
 pub record HoldsBlocks (s : List ℕ) (start end : ℕ) (x : List Block) : Type 0 where

@@ -4,16 +4,13 @@ use Prim.Native.Nat.{ℕ, zero, suc, ◌+◌, ◌-◌, ◌<◌, ◌≤◌, zero-
 use native.Mathlib.Omega.{arith}
 use mathlib.Core.Path.{◌≡◌, refl, sym, ap, subst, ◌∙◌}
 use mathlib.Core.Bool.{Bool}
-use mathlib.Core.Logic.{⊎_elim}
 use mathlib.Core.List.{List, [], ◌∷◌}
 use lib.ListN.{length, drop, length-drop, drop_of_length-le}
 use lib.Dec.{eqb}
-use types.Run.{OneOf}
-use denote.Enum.Declared.{tag_of}
-use borrow.Author.Tests.{eq-eqb, ne_eqb, eqb-false}
+use borrow.Author.Tests.{eq-eqb, ne_eqb}
 use Rattle.text.specs.Utf8.{size, chars}
 use Rattle.text.proofs.Tests.{on}
-use Rattle.records.specs.Blocks.{Span, Kind, Block}
+use Rattle.records.specs.Blocks.{Span, Block}
 use Rattle.records.specs.Format.{encode_span, encode_spans}
 use Rattle.records.specs.Decode.{failed, parsed, span_at, spans_at, block_at}
 use Rattle.walker.specs.Answers.{Answer, at_end, refused, gives, map, level_of, depth_of, emphasis_of, found_at, block_answer, nth, span_in, span_answer}
@@ -29,8 +26,6 @@ use Rattle.walker.specs.declared.reader.SpanRead.TheVariants as S
 use Rattle.walker.specs.declared.Range.{Range}
 use Rattle.walker.specs.declared.Nth.{Nth}
 use Rattle.walker.specs.declared.Nth.TheVariants as N
-use Rattle.walker.specs.contracts.Nth
-use Rattle.walker.specs.contracts.reader.Kind
 use Rattle.walker.proofs.Spans.{rest_next, between_size}
 use Rattle.walker.proofs.Placed.{After, after_length, then_after, span_ends, spans_after}
 use Rattle.records.proofs.Decoded.{not_failed, then_inv}
@@ -250,19 +245,21 @@ module _ (s : List ℕ) (at n : ℕ) {r : Nth} (w : NthIs s at n r) where
   pub text_case : {r' : Nth} → r ≡ r' → nth_at r' ≡ text_place s at n
   text_case e = ap nth_at (sym e) ∙ sym w.placed
 
--- the `else` of a `let .. else` over an enum of three variants hands over which of the other two it is, by its number
-no_text : (r : Nth) → OneOf (1 ∷ 2 ∷ []) (tag_of Nth.the_type r) → nowhere ≡ nth_at r
-no_text (N.At b i c start end) o = ⊎_elim (λ e. absurd (eqb-false 0 1 refl e)) (λ e. absurd (eqb-false 0 2 refl e)) o
-no_text N.End o = refl
-no_text N.Bad o = refl
+-- the `else` of a `let .. else` knows only what the value is not
+no_text : (r : Nth) → ((b i c : Bool) (start end : ℕ) → r ≡ N.At b i c start end → ⊥) → nowhere ≡ nth_at r
+no_text (N.At b i c start end) h = absurd (h b i c start end refl)
+no_text N.End h = refl
+no_text N.Bad h = refl
 
-pub text_none : (s : List ℕ) (at n : ℕ) {r : Nth} → NthIs s at n r → OneOf (1 ∷ 2 ∷ []) (tag_of Nth.the_type r) → nowhere ≡ text_place s at n
-text_none s at n {r} w o = no_text r o ∙ text_case s at n w refl
+pub text_none : (s : List ℕ) (at n : ℕ) {r : Nth} → NthIs s at n r → ((b i c : Bool) (start end : ℕ) → r ≡ N.At b i c start end → ⊥)
+    → nowhere ≡ text_place s at n
+text_none s at n {r} w h = no_text r h ∙ text_case s at n w refl
 
-no_marker : (s : List ℕ) (at : ℕ) (k : K.Kind) → OneOf (0 ∷ 1 ∷ []) (tag_of Kind.the_type k) → nowhere ≡ marker_range at (kind_of s k)
-no_marker s at (KV.Heading l) o = refl
-no_marker s at KV.Paragraph o = refl
-no_marker s at (KV.Item d start end) o = ⊎_elim (λ e. absurd (eqb-false 2 0 refl e)) (λ e. absurd (eqb-false 2 1 refl e)) o
+no_marker : (s : List ℕ) (at : ℕ) (k : K.Kind) → ((d start end : ℕ) → k ≡ KV.Item d start end → ⊥) → nowhere ≡ marker_range at (kind_of s k)
+no_marker s at (KV.Heading l) h = refl
+no_marker s at KV.Paragraph h = refl
+no_marker s at (KV.Item d start end) h = absurd (h d start end refl)
 
-pub marker_none : (s : List ℕ) (at : ℕ) {k : K.Kind} {n first next : ℕ} → Found s at k n first next → OneOf (0 ∷ 1 ∷ []) (tag_of Kind.the_type k) → nowhere ≡ marker_place s at
-marker_none s at {k} f o = no_marker s at k o ∙ range_case s at f refl
+pub marker_none : (s : List ℕ) (at : ℕ) {k : K.Kind} {n first next : ℕ} → Found s at k n first next
+    → ((d start end : ℕ) → k ≡ KV.Item d start end → ⊥) → nowhere ≡ marker_place s at
+marker_none s at {k} f h = no_marker s at k h ∙ range_case s at f refl

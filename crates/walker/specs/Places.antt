@@ -1,7 +1,7 @@
 -- Where the texts and the spans of a block stand in the records (document 01, "Records": the order of the fields).
 -- Assumes nothing.
 use Rattle.std.specs.Prelude.{ℕ, zero, suc, ◌+◌, ◌-◌, List, length, drop}
-use Rattle.std.specs.Borrow.{GName, MutBor}
+use Rattle.std.specs.Borrow.{Bor}
 use Rattle.text.specs.Utf8.{size}
 use Rattle.text.specs.Part.{between}
 use Rattle.records.specs.Blocks.{Span, Kind, heading, paragraph, item, Block}
@@ -48,16 +48,15 @@ unfoldable pub text_place : List ℕ → ℕ → ℕ → Range
 text_place s at n = range_or_none (nth_range n) (found_at s at)
 
 -- The part of lent bytes at a place: it starts there in their own memory (a block, and an offset in it), and holds the bytes of the place.
--- A reference's name is the one that proofs know it by: no program sees it.
-abbrev pub part_of : MutBor (List ℕ) → Range → GName → MutBor (List ℕ)
-part_of s p name = record { ref_ptr = (s.ref_ptr.0, p.start + s.ref_ptr.1); ghost_name = name; now = between s.now p.start p.end }
+abbrev pub part_of : Bor (List ℕ) → Range → Bor (List ℕ)
+part_of s p = record { ref_ptr = (s.ref_ptr.0, p.start + s.ref_ptr.1); now = between s.now p.start p.end }
 
 -- the marker and the text of a span as parts of the lent records
-abbrev pub marker_part : MutBor (List ℕ) → ℕ → GName → MutBor (List ℕ)
-marker_part s at name = part_of s (marker_place s.now at) name
+abbrev pub marker_part : Bor (List ℕ) → ℕ → Bor (List ℕ)
+marker_part s at = part_of s (marker_place s.now at)
 
-abbrev pub text_part : MutBor (List ℕ) → ℕ → ℕ → GName → MutBor (List ℕ)
-text_part s at n name = part_of s (text_place s.now at n) name
+abbrev pub text_part : Bor (List ℕ) → ℕ → ℕ → Bor (List ℕ)
+text_part s at n = part_of s (text_place s.now at n)
 
 -- going through the spans of a block in turn: where the first one stands, or the end of a block without spans
 unfoldable pub first_answer : List ℕ → ℕ → Answer ℕ

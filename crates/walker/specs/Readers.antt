@@ -1,6 +1,6 @@
 -- What the inner readers promise: an answer says what the decoder finds at an offset, and where the rest starts.
 -- Assumes nothing.
-use Rattle.std.specs.Prelude.{ℕ, ◌+◌, ◌-◌, ◌/◌, ◌%◌, ◌≤◌, ◌≡◌, List, length, drop, eqb}
+use Rattle.std.specs.Prelude.{ℕ, ◌+◌, ◌/◌, ◌%◌, ◌≤◌, ◌≡◌, List, length, drop, eqb}
 use Rattle.text.specs.Part.{between, Inside}
 use Rattle.text.specs.Utf8.{chars}
 use Rattle.records.specs.Blocks.{Span, Kind, heading, paragraph, item}

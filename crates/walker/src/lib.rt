@@ -1,5 +1,7 @@
 // The walker: what stands at an offset of lent records (crate `records`). Numbers and texts come from separate calls; a text is a part
 // of the records, and empty where there is none. `reader` reads one block, `fields` its integers and its marker.
+#![tactic(auto)]
+
 ghost use Rattle.std.specs.Prelude.{◌≡◌};
 ghost use Rattle.text.specs.Utf8.{encode};
 ghost use Rattle.walker.specs.Answers.{block_answer, marker_answer, span_answer, text_answer};
@@ -117,7 +119,7 @@ pub fn marker_range(records: &[u8], at: usize) -> Range
 
 // The marker of the item at an offset, the part of the records that stands at its range; empty where there is none.
 pub fn marker_at(records: &[u8], at: usize) -> &[u8]
-    ensures { (result.now ≡ encode (marker_answer records.now at)) × (result ≡ marker_part records.entry at result.name) }
+    ensures { (result.now ≡ encode (marker_answer records.now at)) × (result ≡ marker_part records.entry at) }
 {
     let range = marker_range(records, at);
     let start = range.start;
@@ -226,7 +228,7 @@ pub fn text_range(records: &[u8], at: usize, n: usize) -> Range
 
 // The text of a span, the part of the records that stands at its range; empty where there is none.
 pub fn text_at(records: &[u8], at: usize, n: usize) -> &[u8]
-    ensures { (result.now ≡ encode (text_answer records.now at n)) × (result ≡ text_part records.entry at n result.name) }
+    ensures { (result.now ≡ encode (text_answer records.now at n)) × (result ≡ text_part records.entry at n) }
 {
     let range = text_range(records, at, n);
     let from = range.start;
@@ -325,14 +327,14 @@ impl<'a> Walker<'a> {
 
     // The marker of the item there, a part of the records.
     pub fn marker(self) -> &'a [u8]
-        ensures { (result.now ≡ encode (marker_answer self.entry.records.now self.entry.at)) × (result ≡ marker_part self.entry.records self.entry.at result.name) }
+        ensures { (result.now ≡ encode (marker_answer self.entry.records.now self.entry.at)) × (result ≡ marker_part self.entry.records self.entry.at) }
     {
         marker_at(self.records, self.at)
     }
 
     // The text of a span there, a part of the records.
     pub fn text(self, n: usize) -> &'a [u8]
-        ensures { (result.now ≡ encode (text_answer self.entry.records.now self.entry.at n)) × (result ≡ text_part self.entry.records self.entry.at n result.name) }
+        ensures { (result.now ≡ encode (text_answer self.entry.records.now self.entry.at n)) × (result ≡ text_part self.entry.records self.entry.at n) }
     {
         text_at(self.records, self.at, n)
     }

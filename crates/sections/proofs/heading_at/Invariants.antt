@@ -1,0 +1,14 @@
+-- `sections::heading_at` meets its contract: each turn leaves the same answer to find, from the next offset on.
+-- Assumes nothing.
+use Prim.Native.Nat.{◌-◌}
+use mathlib.Core.Path.{◌≡◌}
+use lib.ListN.{length}
+use Rattle.sections.specs.Calls.{section_answer}
+use Rattle.sections.specs.Readers.{answer_from}
+use Rattle.sections.proofs.heading_at.Given as goal
+
+abbrev pub invariant-loop-level : goal.invariant-loop-level
+invariant-loop-level l = answer_from l.records l.title l.at ≡ section_answer l.records l.title
+
+abbrev pub decreases-loop-level : goal.decreases-loop-level
+decreases-loop-level l = length l.records - l.at
