@@ -32,7 +32,7 @@ fn answered(number: u32, length: usize) -> Written
 }
 
 fn page_written(a: html::Answer) -> Written
-    ensures { result ≡ page-#[cycle(a)] struct a }
+    ensures { result ≡ page_struct a }
 {
     match a {
         html::Answer::Length(n) => answered(0, n),
@@ -54,7 +54,7 @@ pub extern "C" fn rn_html_to_markdown(page: &[u8], work: &mut [u8], res: &mut [u
 }
 
 fn markdown_written(a: markdown::Answer) -> Written
-    ensures { result ≡ markdown-#[cycle(a)] struct a }
+    ensures { result ≡ markdown_struct a }
 {
     match a {
         markdown::Answer::Length(n) => answered(0, n),
