@@ -79,10 +79,10 @@ wrote_is (wrote bs) h e = refl
 
 -- ---- what an answer that is no length says
 abbrev pub No : Answer → Type 0
-No a = OneOf (1 ∷ 2 ∷ 3 ∷ 4 ∷ []) (tag_of answer.the_type a)
+No a = (n : ℕ) → a ≡ Length n → ⊥
 
 above_zero : (a : Answer) → No a → 0 < answer_number a
-above_zero (Length n) o = absurd (⊎_elim (λ e. omega arith) (λ p. ⊎_elim (λ e. omega arith) (λ q. ⊎_elim (λ e. omega arith) (λ e. omega arith) q) p) o)
+above_zero (Length n) o = absurd (o n refl)
 above_zero NotUtf8 o = omega arith
 above_zero SmallWork o = omega arith
 above_zero SmallResult o = omega arith

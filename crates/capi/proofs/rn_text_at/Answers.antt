@@ -1,0 +1,12 @@
+-- `capi::rn_text_at` meets its contract: the place that `text_range` answers, by its length.
+-- Assumes nothing.
+use mathlib.Core.Path.{ap, ◌∙◌}
+use Rattle.walker.proofs.PlaceLaws.{text_holds}
+use Rattle.capi.specs.Values.{part_struct}
+use Rattle.capi.proofs.rn_text_at.Goals as goal
+
+pub by_length-requires : goal.by_length-requires
+by_length-requires c = let a = c.args in (text_holds a.records.now a.at a.n c.text_range-range.ensures).within.order
+
+pub returns : goal.returns
+returns c = c.by_length.ensures ∙ ap part_struct c.text_range-range.ensures
