@@ -1,4 +1,6 @@
 // The calls for C: numbers, and slices as a pointer and a length. include/release_notes.h says the same for a C programmer.
+#![tactic(auto)]
+
 ghost use Rattle.std.specs.Prelude.{◌≡◌, ◌≤◌, length};
 ghost use Rattle.walker.specs.Answers.{block_answer, span_answer};
 ghost use Rattle.walker.specs.Places.{marker_place, text_place, first_answer, here_answer};
@@ -9,13 +11,10 @@ ghost use Rattle.sheet.specs.Calls.{sheet_call};
 ghost use Rattle.sections.specs.Calls.{section_answer};
 ghost use Rattle.capi.specs.Values.{flag, written_of, page_struct, markdown_struct, written_struct, sheet_struct};
 ghost use Rattle.capi.specs.Values.{block_of, block_struct, span_struct, first_struct, here_struct, part_struct, section_struct};
+
 use sections::SectionAnswer;
 use sheet::Verdict;
-use walker::BlockAnswer;
-use walker::FirstAnswer;
-use walker::HereAnswer;
-use walker::Range;
-use walker::SpanAnswer;
+use walker::{BlockAnswer, FirstAnswer, HereAnswer, Range, SpanAnswer};
 
 // What a call that writes answers: document 01's number, 0 for success, and how many bytes of the result it wrote.
 #[repr(C)]

@@ -7,13 +7,10 @@ use native.Mathlib.Nat.{zero-add}
 use mathlib.Core.Path.{◌≡◌, refl, sym, ap, ◌∙◌}
 use mathlib.Core.Option.{Option, some, none}
 use mathlib.Core.List.{List, [], ◌∷◌, ◌++◌, append_assoc}
-use mathlib.Core.Logic.{⊎_elim}
 use lib.Dec.{ltb}
 use lib.ListN.{length, get_or, take, drop, set, length-append, length-drop, take-append-drop}
 use lib.Seq.{sets, sets-eq, set_at, drop-cons, drop-append-le, append_snoc, length-take-le}
 use borrow.Author.Tests.{lt-ltb, le-ltb}
-use types.Run.{OneOf}
-use denote.Enum.Declared.{tag_of}
 use Rattle.text.specs.Words.{str, case}
 use Rattle.text.specs.Utf8.{size, encode, decode}
 use Rattle.text.specs.Cut.{cut}
@@ -24,7 +21,6 @@ use Rattle.html.specs.Calls.{converted, with_buffers, html_to_markdown_call}
 use Rattle.html.specs.Answers.{answer_number, answer_length}
 use Rattle.html.specs.declared.Answer.{Answer}
 use Rattle.html.specs.declared.Answer.TheVariants.{Length, NotUtf8, SmallWork, SmallResult, TooManyLists}
-use Rattle.html.specs.contracts.Answer as answer
 use Rattle.filter.specs.Program.{refusal, outcome_text, page_text, program_text}
 
 -- ---- what is stored from the first byte on is the front

@@ -1,4 +1,6 @@
 // The program `notes` as a function on slices: no contract can say what a program reads or writes, so this one says what it writes for what it read.
+#![tactic(auto)]
+
 ghost use Rattle.std.specs.Prelude.{◌≡◌, ◌+◌, length};
 ghost use Rattle.std.proofs.lemmas.List.Edits.{sets};
 ghost use Rattle.text.specs.Outcome.{front};

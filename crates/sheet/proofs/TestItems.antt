@@ -9,7 +9,7 @@ use mathlib.Core.List.{List, [], ◌∷◌, ◌++◌}
 use lib.ListN.{length, length-append}
 use Rattle.text.specs.Words.{str, ◌>>=◌}
 use Rattle.text.specs.Utf8.{size}
-use Rattle.sheet.specs.Reading.{◌<|>◌, strip, many}
+use Rattle.sheet.specs.Reading.{◌<|>◌, strip}
 use Rattle.sheet.specs.Tree.{Run, Mark, ul, ol, Items, Item, alone, with, items}
 use Rattle.sheet.specs.Grammar.{opens, closes}
 use Rattle.sheet.specs.Reader.{Answer, nl?, line, then_nl, item, some_items, marked, list_of, read_list}

@@ -1,4 +1,6 @@
 // The sheet test: document 01, "Sheet".
+#![tactic(auto)]
+
 ghost use Rattle.std.specs.Prelude.{◌≡◌, true, ◌-◌, min};
 ghost use Rattle.sheet.specs.Reader.{closed_by, headed, block};
 ghost use Rattle.text.specs.Words.{all};

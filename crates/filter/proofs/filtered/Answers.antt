@@ -9,12 +9,10 @@ use Rattle.filter.proofs.filtered.Goals as goal
 
 pub returns-then-input-gt16384 : goal.returns-then-input-gt16384
 returns-then-input-gt16384 c =
-
     let args = c.args in
     rw (text_long args.input.now (omega (arith, c.if-input-gt16384.true)))
     (c.line.ensures.0, c.line.ensures.1 ∙ stored_front (str "too long\n") args.out.now (search rules))
 
 pub returns : goal.returns
 returns c =
-
     rw (text_short c.args.input.now (omega (arith, c.if-input-gt16384.false))) c.convert.ensures

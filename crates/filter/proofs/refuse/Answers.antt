@@ -4,6 +4,5 @@ use Rattle.filter.proofs.refuse.Goals as goal
 
 pub returns : goal.returns
 returns c =
-
     let digit = c.digit in
     rw digit.ensures at c.line.ensures

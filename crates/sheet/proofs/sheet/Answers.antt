@@ -1,7 +1,6 @@
 -- `sheet::sheet` meets its contract: refusal 1, no, or yes with both counts, for every page.
 -- Assumes nothing.
 use mathlib.Core.Path.{sym, ◌∙◌, ap}
-use Prim.Native.Nat.{◌-◌}
 use native.Mathlib.Omega.{arith}
 use borrow.Author.Tests.{not-true, not-false}
 use Rattle.sheet.specs.Reader.{block}

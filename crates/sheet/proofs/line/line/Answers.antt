@@ -1,6 +1,5 @@
 -- `sheet::line::line` meets its contract.
 -- Assumes nothing.
-use Prim.Native.Nat.{◌-◌}
 use native.Mathlib.Omega.{arith}
 use Rattle.sheet.proofs.TestRuns.{run_at, run_no}
 use Rattle.sheet.proofs.TestLine.{line_none, line_next, line_yes, line_no}

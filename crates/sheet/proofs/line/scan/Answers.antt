@@ -1,6 +1,5 @@
 -- `sheet::line::scan` meets its contract.
 -- Assumes nothing.
-use Prim.Native.Nat.{◌-◌}
 use native.Mathlib.Omega.{arith}
 use Rattle.sheet.proofs.TestText.{glyph_at, glyph_no}
 use Rattle.sheet.proofs.TestGist.{scan_none, scan_next, scan_ends}

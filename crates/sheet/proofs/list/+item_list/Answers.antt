@@ -5,8 +5,6 @@ use borrow.Author.Tests.{not-true, not-false}
 use native.Mathlib.Omega.{arith}
 use mathlib.Core.Path.{◌≡◌, refl}
 use mathlib.Core.Option.{none}
-use mathlib.Core.List.{List}
-use lib.ListN.{length}
 use Rattle.text.specs.Words.{str}
 use Rattle.sheet.specs.Reading.{strip}
 use Rattle.sheet.specs.Grammar.{closes}
