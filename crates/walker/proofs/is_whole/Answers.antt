@@ -1,6 +1,6 @@
 -- `walker::is_whole` meets its contract: what is left from the next block on is whole exactly if all is.
 -- Assumes nothing.
-use mathlib.Core.Path.{◌≡◌, sym, ap, ◌∙◌}
+use mathlib.Core.Path.{sym, ap, ◌∙◌}
 use Rattle.walker.specs.Decoded.{is_whole}
 use Rattle.walker.proofs.Decoded.{stands_here, turn_less, whole_next}
 use Rattle.walker.proofs.is_whole.Goals as goal
