@@ -15,9 +15,6 @@ returns-then-out-at c = sym (sets_out c.args.out.now c.args.at c.args.s.now c.if
 pub loop-i-init : goal.loop-i-init
 loop-i-init c = (ap (λ (n : ℕ). sets c.args.out.now n c.args.s.now) (add-zero c.args.at), refl)
 
-pub bounds-s-i : goal.bounds-s-i
-bounds-s-i c = omega (arith, c.loop-i-test.true, c.least-n.ensures)
-
 pub overflow_add-out : goal.overflow_add-out
 overflow_add-out c = omega (arith, c.loop-i-test.true, c.least-n.ensures, c.if-out-at.false, c.well_formed)
 

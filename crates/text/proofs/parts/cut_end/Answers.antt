@@ -1,5 +1,6 @@
 -- `text::cut_end` meets its contract.
 -- Assumes nothing.
+use native.Mathlib.Omega.{arith}
 use mathlib.Core.Path.{sym, ◌∙◌}
 use Rattle.text.specs.Cut.{cut_end}
 use Rattle.text.proofs.CutLaws.{reach}
@@ -13,7 +14,7 @@ unfolding cut_end
 returns-then-is_split c = rw (sym c.is_split.ensures ∙ c.if-is_split.true)
 
 pub overflow_sub-result-then-is_split-2 : goal.overflow_sub-result-then-is_split-2
-overflow_sub-result-then-is_split-2 c = reach _ _ _ (sym c.is_split-2.ensures ∙ c.if-is_split-2.true)
+overflow_sub-result-then-is_split-2 c = let h = reach _ _ _ (sym c.is_split-2.ensures ∙ c.if-is_split-2.true) in omega arith
 
 pub returns-then-is_split-2 : goal.returns-then-is_split-2
 unfolding cut_end
