@@ -1,4 +1,6 @@
 // A page from standard input to its Markdown on standard output: what is read, and what is written for it.
+#![tactic(auto)]
+
 use libc::{STDIN_FILENO, STDOUT_FILENO};
 
 fn write(input: &[u8], out: &mut [u8; 32001]) {

@@ -1,6 +1,8 @@
 // Replays stored answers, read from standard input, and says how many differ. A case is the letter of what is replayed (P a page, M Markdown,
 // S a page and the sheet test, T a title and records), four length bytes of the input, four of the answer, the input and the answer;
 // FFFFFF00 + n in place of the answer's length is refusal n.
+#![tactic(auto)]
+
 ghost use Rattle.std.specs.Prelude.{◌≤◌};
 
 mod blocks;
