@@ -10,7 +10,8 @@ mod pages;
 mod sheets;
 mod titles;
 
-use libc::{STDIN_FILENO, STDOUT_FILENO};
+use std::io;
+use std::io::Read;
 
 // How many cases were run, and how many of them differ.
 #[derive(Clone, Copy)]
@@ -85,20 +86,16 @@ fn replayed(data: &[u8], letter: u8) -> Count {
     Count { run, differ }
 }
 
-fn say(what: &[u8], count: Count) {
-    io::write_all(STDOUT_FILENO, what);
-    io::print_decimal(STDOUT_FILENO, count.run as u64);
-    io::write_all(STDOUT_FILENO, b" run, ");
-    io::print_decimal(STDOUT_FILENO, count.differ as u64);
-    io::write_all(STDOUT_FILENO, b" differ\n");
+fn say(rt: &impl Print, what: &str, count: Count) -> io::Result<()> {
+    println!(rt; "{what}: {} run, {} differ", count.run, count.differ)
 }
 
-fn main() {
+fn main(rt: HostRuntime) -> io::Result<()> {
     let mut file = [0u8; 524288];
-    let end = io::read_full(STDIN_FILENO, &mut file);
-    let data = text::front(&file, end);
-    say(b"pages: ", replayed(data, b'P'));
-    say(b"Markdown: ", replayed(data, b'M'));
-    say(b"sheets: ", replayed(data, b'S'));
-    say(b"sections: ", replayed(data, b'T'));
+    let end = io::copy(&mut rt.reader().take(524288), &mut file.as_mut_slice())?;
+    let data = text::front(&file, end as usize);
+    say(&rt, "pages", replayed(data, b'P'))?;
+    say(&rt, "Markdown", replayed(data, b'M'))?;
+    say(&rt, "sheets", replayed(data, b'S'))?;
+    say(&rt, "sections", replayed(data, b'T'))
 }
