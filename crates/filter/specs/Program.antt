@@ -1,7 +1,7 @@
 -- What the program `notes` writes for the bytes that it reads: document 01, the paragraph below the specimens.
 -- Assumes nothing.
-use Rattle.std.specs.Prelude.{ℕ, ◌+◌, List, ◌∷◌, ◌++◌, ltb, length}
-use Rattle.text.specs.Words.{if◌then◌else◌, str}
+use Rattle.std.specs.Prelude.{ℕ, ◌+◌, List, ◌∷◌, ◌++◌, ltb, length, if◌then◌else◌}
+use Rattle.text.specs.Words.{str}
 use Rattle.text.specs.Outcome.{Outcome, refused, wrote}
 use Rattle.html.specs.Calls.{html_to_markdown_call}
 

@@ -8,7 +8,8 @@ use mathlib.Core.List.{List, [], ◌∷◌, reverse_aux}
 use lib.Dec.{ltb, eqb}
 use lib.ListN.{length, replicate, length-replicate}
 use borrow.Author.Tests.{ltb-true}
-use Rattle.text.specs.Words.{if◌then◌else◌, drop_while, is, is_empty, starts}
+use Rattle.std.specs.Prelude.{if◌then◌else◌}
+use Rattle.text.specs.Words.{drop_while, is, is_empty, starts}
 use Rattle.text.specs.Utf8.{size}
 use Rattle.text.specs.Decimal.{digits, decimal}
 use Rattle.text.proofs.Tests.{on}

@@ -7,7 +7,8 @@ use mathlib.Core.Bool.{Bool, true, false, ◌&&◌, ◌||◌, not}
 use mathlib.Core.List.{List, [], ◌∷◌, ◌++◌, reverse_aux, reverse_aux-append}
 use lib.Dec.{eqb}
 use lib.ListN.{length}
-use Rattle.text.specs.Words.{if◌then◌else◌, str, repeat, drop_while, is, is_empty, starts}
+use Rattle.std.specs.Prelude.{if◌then◌else◌}
+use Rattle.text.specs.Words.{str, repeat, drop_while, is, is_empty, starts}
 use Rattle.text.specs.Utf8.{size}
 use Rattle.text.specs.Decimal.{decimal}
 use Rattle.text.proofs.Tests.{on}

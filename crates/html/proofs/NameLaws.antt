@@ -14,7 +14,8 @@ use lib.Dec.{eqb, leb, ltb}
 use lib.ListN.{length, get_or, drop, drop_of_length-le}
 use lib.Seq.{drop-cons}
 use borrow.Author.Tests.{eq-eqb, ne_eqb, eqb-true, ltb-true, ltb-false, le-leb, lt-leb, leb-true, leb-false}
-use Rattle.text.specs.Words.{if◌then◌else◌, case, str, all, same, lookup, take_while}
+use Rattle.std.specs.Prelude.{if◌then◌else◌}
+use Rattle.text.specs.Words.{case, str, all, same, lookup, take_while}
 use Rattle.text.specs.Chars.{within, is_alphanumeric, is_digit, to_lower}
 use Rattle.text.specs.Utf8.{chars}
 use Rattle.text.proofs.Tests.{same_true, decide, on, and_true, within_true, within_is, within_above, or_elim, same_self}

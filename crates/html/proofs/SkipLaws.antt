@@ -9,7 +9,8 @@ use mathlib.Core.List.{List, [], ◌∷◌}
 use lib.Dec.{eqb}
 use lib.ListN.{drop}
 use mir.Val.{bool_byte}
-use Rattle.text.specs.Words.{if◌then◌else◌, str, same, starts}
+use Rattle.std.specs.Prelude.{if◌then◌else◌}
+use Rattle.text.specs.Words.{str, same, starts}
 use Rattle.text.specs.Utf8.{chars}
 use Rattle.text.proofs.Tests.{same_true, and_true}
 use Rattle.text.proofs.AsciiLaws.{starts_chars, drop_chars}

@@ -12,7 +12,8 @@ use lib.ListN.{length, get_or, set, replicate}
 use lib.Seq.{get_or-set_same, get_or-set_other}
 use borrow.Author.Tests.{le-leb, lt-leb}
 use mir.Val.{bool_byte}
-use Rattle.text.specs.Words.{if◌then◌else◌, drop_while, is, is_empty, starts, repeat, str}
+use Rattle.std.specs.Prelude.{if◌then◌else◌}
+use Rattle.text.specs.Words.{drop_while, is, is_empty, starts, repeat, str}
 use Rattle.text.specs.Utf8.{utf8, size}
 use Rattle.text.proofs.Utf8.{utf8_1}
 use Rattle.text.specs.Decimal.{decimal}

@@ -12,7 +12,8 @@ use lib.Dec.{eqb, ltb}
 use lib.ListN.{length, get_or, take, drop, length-drop}
 use lib.Seq.{take-suc, take_all, drop-drop}
 use borrow.Author.Tests.{eq-eqb, ne_eqb, eqb-true, ltb-true, lt-ltb, eqb-false, not-true, not-false}
-use Rattle.text.specs.Words.{if◌then◌else◌, str, drop_while}
+use Rattle.std.specs.Prelude.{if◌then◌else◌}
+use Rattle.text.specs.Words.{str, drop_while}
 use Rattle.text.specs.Chars.{within, is_space}
 use Rattle.text.specs.Trim.{trim_start, start_of}
 use Rattle.text.specs.Utf8.{Scalars, utf8, size, chars, code_at}

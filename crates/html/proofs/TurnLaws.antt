@@ -13,7 +13,8 @@ use lib.ListN.{length, get_or, take, drop, length-take, length-drop, length-appe
 use lib.Seq.{drop-cons, drop-drop, drop-append_seam, drop-length, take_all, length-take-le}
 use borrow.Author.Tests.{lt-ltb, le-ltb, ltb-true, ltb-false}
 use Rattle.text.specs.Chars.{Ascii}
-use Rattle.text.specs.Words.{if◌then◌else◌, ◌>>=◌, case, starts, index, find}
+use Rattle.std.specs.Prelude.{if◌then◌else◌}
+use Rattle.text.specs.Words.{◌>>=◌, case, starts, index, find}
 use Rattle.text.specs.Utf8.{Scalars, encode, size, chars}
 use Rattle.text.specs.Trim.{trim}
 use Rattle.text.specs.Find.{found, until, since, closed, comment_end}

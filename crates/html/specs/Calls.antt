@@ -1,7 +1,7 @@
 -- What `html_to_markdown` answers for a page's bytes and the lengths of the two buffers (document 01, "Where each call says no").
 -- Assumes nothing.
-use Rattle.std.specs.Prelude.{ℕ, ◌+◌, ◌*◌, List, ltb}
-use Rattle.text.specs.Words.{if◌then◌else◌, case}
+use Rattle.std.specs.Prelude.{ℕ, ◌+◌, ◌*◌, List, ltb, if◌then◌else◌}
+use Rattle.text.specs.Words.{case}
 use Rattle.text.specs.Utf8.{size, encode, decode}
 use Rattle.text.specs.Outcome.{Outcome, refused, wrote}
 use Rattle.html.specs.Page.{read_part, html_to_markdown}

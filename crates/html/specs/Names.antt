@@ -1,8 +1,8 @@
 -- A tag's name, and what it says to the code: `tag_means` gives the tag of notes.rs, and `script` and `style` are skipped.
 -- Assumes nothing.
-use Rattle.std.specs.Prelude.{ℕ, ◌+◌, ◌-◌, ◌*◌, true, false, List, [], ◌∷◌, map, leb, length}
+use Rattle.std.specs.Prelude.{ℕ, ◌+◌, ◌-◌, ◌*◌, true, false, List, [], ◌∷◌, map, leb, length, if◌then◌else◌}
 use Prim.Native.String.{String}
-use Rattle.text.specs.Words.{if◌then◌else◌, case, str, same, lookup}
+use Rattle.text.specs.Words.{case, str, same, lookup}
 use Rattle.text.specs.Chars.{is_alphanumeric, to_lower}
 use Rattle.html.specs.State.{tags, heading, marked, para, pre, br, ul, ol, li, tr, cell, code, other}
 use Rattle.html.specs.State as state

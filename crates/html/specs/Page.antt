@@ -1,8 +1,8 @@
 -- `html_to_markdown` of notes.rs: the loop over a page's text, comments and tags, and the cuts (document 01, "Converter").
 -- Assumes nothing.
-use Rattle.std.specs.Prelude.{ℕ, zero, suc, ◌+◌, ◌-◌, Bool, true, false, ◌&&◌, ◌||◌, not, List, [], ◌∷◌, map, reverse, length, take, drop, ltb, leb}
+use Rattle.std.specs.Prelude.{ℕ, zero, suc, ◌+◌, ◌-◌, Bool, true, false, ◌&&◌, ◌||◌, not, List, [], ◌∷◌, map, reverse, length, take, drop, ltb, leb, if◌then◌else◌}
 use Rattle.std.proofs.Math.Option.{Option, none, some}
-use Rattle.text.specs.Words.{if◌then◌else◌, ◌>>=◌, case, str, same, starts, find, take_while}
+use Rattle.text.specs.Words.{◌>>=◌, case, str, same, starts, find, take_while}
 use Rattle.text.specs.Chars.{is_alphanumeric, to_lower}
 use Rattle.text.specs.Utf8.{size}
 use Rattle.text.specs.Trim.{trim}

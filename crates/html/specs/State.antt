@@ -1,10 +1,10 @@
 -- The state of `Converter` in notes.rs as values, and what each of its methods makes of it (document 01, "Converter").
 -- Assumes nothing.
-use Rattle.std.specs.Prelude.{ℕ, zero, suc, min, Bool, true, false, ◌&&◌, ◌||◌, not, length}
+use Rattle.std.specs.Prelude.{ℕ, zero, suc, min, Bool, true, false, ◌&&◌, ◌||◌, not, length, if◌then◌else◌}
 use Prim.Native.String.{String}
 use mathlib.Core.List.{List, [], ◌∷◌, ◌++◌, reverse_aux, tail}
 use Rattle.std.proofs.Math.Option.{Option, none}
-use Rattle.text.specs.Words.{if◌then◌else◌, case, str, repeat, is, matches, is_empty, lookup, starts, drop_while}
+use Rattle.text.specs.Words.{case, str, repeat, is, matches, is_empty, lookup, starts, drop_while}
 use Rattle.text.specs.Chars.{is_space, is_digit}
 use Rattle.text.specs.Decimal.{decimal}
 use Rattle.reference.specs.Unescape.{unescape}

@@ -1,10 +1,10 @@
 -- What the code's values stand for: the struct `Converter` and the lent output for a state, the enums `Skip`, `Step` and `Tag` for the names of
 -- notes.rs, the structs `Tagged` and `Turned` for what a tag and a turn leave.
 -- Assumes nothing.
-use Rattle.std.specs.Prelude.{ℕ, zero, suc, Bool, false, leb, length, get_or, drop}
+use Rattle.std.specs.Prelude.{ℕ, zero, suc, Bool, false, leb, length, get_or, drop, if◌then◌else◌}
 use mathlib.Core.List.{List, [], ◌∷◌, ◌++◌, reverse, reverse_aux, tail}
 use Rattle.std.proofs.Math.Option.{Option, none, some}
-use Rattle.text.specs.Words.{if◌then◌else◌, str, is, drop_while}
+use Rattle.text.specs.Words.{str, is, drop_while}
 use Rattle.text.specs.Utf8.{chars}
 use Rattle.html.specs.State.{State, with_out, list_changed, heading, marked, para, pre, br, ul, ol, li, tr, cell, code, other}
 use Rattle.html.specs.State as state

@@ -10,7 +10,8 @@ use native.Mathlib.Omega.{arith}
 use lib.Dec.{eqb, ltb}
 use lib.ListN.{length, get_or, take, drop, length-drop}
 use lib.Seq.{take-length, take-suc}
-use Rattle.text.specs.Words.{if◌then◌else◌, str, starts, starts_with, drop_while, take_while, trim_end_matches, trim_matches}
+use Rattle.std.specs.Prelude.{if◌then◌else◌}
+use Rattle.text.specs.Words.{str, starts, starts_with, drop_while, take_while, trim_end_matches, trim_matches}
 use Rattle.text.specs.Utf8.{Scalars, utf8, encode, chars}
 use Rattle.text.specs.Trim.{trim}
 use Rattle.text.proofs.Tests.{decide, and_true, within_below}

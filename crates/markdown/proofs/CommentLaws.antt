@@ -11,7 +11,8 @@ use native.Mathlib.Omega.{arith}
 use lib.Dec.{ltb, eqb}
 use lib.ListN.{length, drop, drop_of_length-le}
 use lib.Seq.{drop-append_seam}
-use Rattle.text.specs.Words.{if◌then◌else◌, case, str, starts_with, starts, index}
+use Rattle.std.specs.Prelude.{if◌then◌else◌}
+use Rattle.text.specs.Words.{case, str, starts_with, starts, index}
 use Rattle.text.specs.Utf8.{Scalars, utf8, encode, chars, is_utf8}
 use Rattle.text.proofs.Tests.{decide, and_true, starts_split}
 use Rattle.text.proofs.Laws.{chars_encode, encode_chars, encode_append, scalars_true, scalars_drop, High, utf8_high}

@@ -11,7 +11,8 @@ use native.Mathlib.Omega.{arith}
 use lib.Dec.{eqb}
 use lib.ListN.{length, get_or}
 use lib.Seq.{sets, length-sets}
-use Rattle.text.specs.Words.{if◌then◌else◌, is_empty}
+use Rattle.std.specs.Prelude.{if◌then◌else◌}
+use Rattle.text.specs.Words.{is_empty}
 use Rattle.text.specs.Utf8.{chars}
 use Rattle.text.proofs.Tests.{decide, on, and_true, and_false}
 use Rattle.text.proofs.Laws.{size_chars}

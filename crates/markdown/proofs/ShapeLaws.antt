@@ -10,7 +10,8 @@ use native.Mathlib.Omega.{arith}
 use lib.Dec.{eqb, leb}
 use lib.ListN.{length, get_or, take, drop, length-append, length-drop}
 use lib.Seq.{drop-drop}
-use Rattle.text.specs.Words.{if◌then◌else◌, case, str, starts, starts_with, is_empty, take_while, drop_while}
+use Rattle.std.specs.Prelude.{if◌then◌else◌}
+use Rattle.text.specs.Words.{case, str, starts, starts_with, is_empty, take_while, drop_while}
 use Rattle.text.specs.Chars.{within, is_digit, is_space, Ascii}
 use Rattle.text.specs.Utf8.{encode, size, chars}
 use Rattle.text.specs.Trim.{trim, start_of}

@@ -9,7 +9,8 @@ use mathlib.Core.Logic.{∥∥₁_map}
 use mathlib.Core.List.Sublistᴰ
 use mathlib.Core.List.{List, [], ◌∷◌, ◌++◌, Sublistᴰ, Sublist}
 use lib.Dec.{eqb}
-use Rattle.text.specs.Words.{if◌then◌else◌, matches}
+use Rattle.std.specs.Prelude.{if◌then◌else◌}
+use Rattle.text.specs.Words.{matches}
 use Rattle.text.proofs.Tests.{on}
 use Rattle.markdown.specs.Shown.{instead, Rewritten, ends, stays, rewrites, Shows, without}
 

@@ -1,9 +1,9 @@
 -- `is_rule`, `list_marker` and `blocks` of notes.rs (document 01, "Block reader").
 -- Assumes nothing.
-use Rattle.std.specs.Prelude.{ℕ, zero, suc, ◌+◌, ◌-◌, ◌/◌, min, Bool, false, ◌&&◌, ◌||◌, List, [], ◌∷◌, ◌++◌, reverse, length, drop, leb}
+use Rattle.std.specs.Prelude.{ℕ, zero, suc, ◌+◌, ◌-◌, ◌/◌, min, Bool, false, ◌&&◌, ◌||◌, List, [], ◌∷◌, ◌++◌, reverse, length, drop, leb, if◌then◌else◌}
 use Rattle.std.proofs.Math.Option.{Option, none, some}
 use Prim.Native.String.{String}
-use Rattle.text.specs.Words.{if◌then◌else◌, case, str, is, matches, is_empty, all, any, starts, find, take_while, drop_while, trim_matches}
+use Rattle.text.specs.Words.{case, str, is, matches, is_empty, all, any, starts, find, take_while, drop_while, trim_matches}
 use Rattle.text.specs.Chars.{within, is_digit, is_space}
 use Rattle.text.specs.Utf8.{size}
 use Rattle.text.specs.Trim.{trim}

@@ -1,7 +1,7 @@
 -- What `blocks` answers for a Markdown text's bytes and the lengths of the two buffers (document 01, "Where each call says no").
 -- Assumes nothing.
-use Rattle.std.specs.Prelude.{ℕ, ◌*◌, List, length, ltb}
-use Rattle.text.specs.Words.{if◌then◌else◌, case}
+use Rattle.std.specs.Prelude.{ℕ, ◌*◌, List, length, ltb, if◌then◌else◌}
+use Rattle.text.specs.Words.{case}
 use Rattle.text.specs.Utf8.{decode}
 use Rattle.text.specs.Outcome.{Outcome, refused, wrote}
 use Rattle.records.specs.Format.{encode_blocks}

@@ -1,7 +1,7 @@
 -- A row of a table made in one pass: ` | `, and any other `|`, becomes ` · `; and what that means in a buffer.
 -- Assumes nothing.
-use Rattle.std.specs.Prelude.{ℕ, zero, suc, ◌+◌, ◌*◌, ◌-◌, ◌≤◌, Bool, List, [], ◌∷◌, ◌++◌, ◌≡◌, eqb, length}
-use Rattle.text.specs.Words.{if◌then◌else◌, starts}
+use Rattle.std.specs.Prelude.{ℕ, zero, suc, ◌+◌, ◌*◌, ◌-◌, ◌≤◌, Bool, List, [], ◌∷◌, ◌++◌, ◌≡◌, eqb, length, if◌then◌else◌}
+use Rattle.text.specs.Words.{starts}
 use Rattle.text.specs.Utf8.{chars}
 use Rattle.text.specs.Trim.{trim}
 use Rattle.markdown.specs.Blocks.{row}

@@ -1,10 +1,10 @@
 -- What the blocks of a Markdown text show of it: document 02's U11 for a whole reading. `marked` says whether the items' markers are among
 -- what is shown.
 -- Assumes nothing.
-use Rattle.std.specs.Prelude.{ℕ, Bool, true, false, ◌&&◌}
+use Rattle.std.specs.Prelude.{ℕ, Bool, true, false, ◌&&◌, if◌then◌else◌}
 use Prim.Native.String.{String}
 use mathlib.Core.List.{List, [], ◌∷◌, ◌++◌, Sublist}
-use Rattle.text.specs.Words.{if◌then◌else◌, str, is, matches}
+use Rattle.text.specs.Words.{str, is, matches}
 use Rattle.records.specs.Blocks.{Kind, heading, paragraph, item, Block, joined}
 
 -- the texts of the blocks one after the other, an item's with its marker before it

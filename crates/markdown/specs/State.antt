@@ -1,9 +1,8 @@
 -- What the reader's state means: the records stored so far, the last item, and the paragraph that is open.
 -- Assumes nothing.
-use Rattle.std.specs.Prelude.{ℕ, ◌+◌, ◌*◌, ◌-◌, ◌≤◌, min, Bool, true, false, List, [], ◌∷◌, ◌++◌, reverse, ◌≡◌, length, take, eqb}
+use Rattle.std.specs.Prelude.{ℕ, ◌+◌, ◌*◌, ◌-◌, ◌≤◌, min, Bool, true, false, List, [], ◌∷◌, ◌++◌, reverse, ◌≡◌, length, take, eqb, if◌then◌else◌}
 use Rattle.std.proofs.Math.Option.{none}
 use Rattle.std.proofs.lemmas.List.Edits.{sets}
-use Rattle.text.specs.Words.{if◌then◌else◌}
 use Rattle.text.specs.Utf8.{Scalars, chars}
 use Rattle.records.specs.Blocks.{Span, item, Block, Item}
 use Rattle.records.specs.Format.{bit, non_empty, le32, kind_bits, encode_kind, encode_count, encode_span, encode_spans, encode_block, encode_blocks}

@@ -10,7 +10,8 @@ use borrow.Author.Tests.{ltb-true}
 use native.Mathlib.Omega.{arith}
 use lib.Dec.{ltb}
 use lib.ListN.{length, drop}
-use Rattle.text.specs.Words.{if◌then◌else◌, ◌>>=◌, ensure, is_empty, all, str, starts_with, starts}
+use Rattle.std.specs.Prelude.{if◌then◌else◌}
+use Rattle.text.specs.Words.{◌>>=◌, ensure, is_empty, all, str, starts_with, starts}
 use Rattle.text.specs.Chars.{within, is_digit, is_ascii, Ascii}
 use Rattle.text.specs.Utf8.{chars}
 use Rattle.text.proofs.Tests.{decide, on, within_true, then_some, ensure_some, starts_split}

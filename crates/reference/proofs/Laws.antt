@@ -9,7 +9,8 @@ use native.Mathlib.Omega.{arith}
 use lib.Dec.{leb, eqb}
 use lib.ListN.{length, get_or, take, drop, length-append, length-take, length-drop, take-append-drop}
 use lib.Seq.{drop-append-add, drop-drop}
-use Rattle.text.specs.Words.{if◌then◌else◌, case, str, is, starts, index}
+use Rattle.std.specs.Prelude.{if◌then◌else◌}
+use Rattle.text.specs.Words.{case, str, is, starts, index}
 use Rattle.text.specs.Chars.{is_scalar, is_control}
 use Rattle.text.specs.Utf8.{IsScalar, utf8, size, chars}
 use Rattle.text.proofs.Tests.{on, and_true, then_some, ensure_some}

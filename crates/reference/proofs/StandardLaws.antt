@@ -15,7 +15,8 @@ use native.Mathlib.Omega.{arith}
 use lib.Dec.{leb, ltb, eqb}
 use lib.ListN.{length}
 use lib.Seq.{take-append_seam}
-use Rattle.text.specs.Words.{if◌then◌else◌, ◌>>=◌, ensure, case, str, is, any, same, starts_with, index}
+use Rattle.std.specs.Prelude.{if◌then◌else◌}
+use Rattle.text.specs.Words.{◌>>=◌, ensure, case, str, is, any, same, starts_with, index}
 use Rattle.text.specs.Chars.{within, is_control}
 use Rattle.text.specs.Utf8.{size}
 use Rattle.text.proofs.Tests.{decide, and_true, or_elim, or_right, within_true, within_is, then_some, same_true}

@@ -10,7 +10,8 @@ use borrow.Author.Tests.{leb-true, leb-false, le-leb, lt-leb, ltb-true, ltb-fals
 use native.Mathlib.Omega.{arith}
 use lib.Dec.{leb, ltb, eqb}
 use lib.ListN.{drop}
-use Rattle.text.specs.Words.{if◌then◌else◌, ◌>>=◌, ensure, str, starts_with, starts}
+use Rattle.std.specs.Prelude.{if◌then◌else◌}
+use Rattle.text.specs.Words.{◌>>=◌, ensure, str, starts_with, starts}
 use Rattle.text.specs.Chars.{within, is_scalar, is_control}
 use Rattle.text.proofs.Tests.{decide, on, and_true, and_false, or_elim, within_true, within_is, within_below, or_neither, starts_split}
 use Rattle.text.proofs.Laws.{scalar_is}

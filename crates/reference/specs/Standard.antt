@@ -3,10 +3,10 @@
 -- here (see `standard`). What its parse errors are is left out: they change no character.
 -- Only what compares the two (proofs/StandardLaws.antt, StandardNumbers.antt and Examples.antt) uses this.
 -- Assumes nothing.
-use Rattle.std.specs.Prelude.{ℕ, ◌+◌, ◌-◌, ◌*◌, Bool, false, ◌||◌, not, List, [], ◌∷◌, eqb, ltb, take, drop}
+use Rattle.std.specs.Prelude.{ℕ, ◌+◌, ◌-◌, ◌*◌, Bool, false, ◌||◌, not, List, [], ◌∷◌, eqb, ltb, take, drop, if◌then◌else◌}
 use Prim.Native.String.{String}
 use Rattle.std.proofs.Math.Option.{Option, none, some}
-use Rattle.text.specs.Words.{if◌then◌else◌, ◌>>=◌, ensure, case, str, is_empty, same, starts, find, lookup}
+use Rattle.text.specs.Words.{◌>>=◌, ensure, case, str, is_empty, same, starts, find, lookup}
 use Rattle.text.specs.Chars.{within, is_control}
 use Rattle.text.specs.Utf8.{size}
 

@@ -1,10 +1,10 @@
 -- `unescape` of notes.rs (document 01, "References"): character references replaced in one pass.
 -- Assumes nothing.
-use Rattle.std.specs.Prelude.{ℕ, zero, suc, ◌+◌, ◌-◌, ◌*◌, Bool, ◌&&◌, ◌||◌, not, List, [], ◌∷◌, take, drop, leb, ltb}
+use Rattle.std.specs.Prelude.{ℕ, zero, suc, ◌+◌, ◌-◌, ◌*◌, Bool, ◌&&◌, ◌||◌, not, List, [], ◌∷◌, take, drop, leb, ltb, if◌then◌else◌}
 use Prim.Native.Char.{Char, code}
 use Prim.Native.String.{String}
 use Rattle.std.proofs.Math.Option.{Option, some}
-use Rattle.text.specs.Words.{if◌then◌else◌, ◌>>=◌, ensure, case, is, is_empty, starts, find, lookup}
+use Rattle.text.specs.Words.{◌>>=◌, ensure, case, is, is_empty, starts, find, lookup}
 use Rattle.text.specs.Chars.{within, is_digit, is_scalar, is_control}
 use Rattle.text.specs.Utf8.{size}
 

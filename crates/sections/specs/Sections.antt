@@ -1,10 +1,10 @@
 -- The sections of a list of blocks (document 02, U9; READINGS-02, points 4 and 24): a heading and all blocks up to the next heading of the same or a
 -- smaller level; the blocks before the first heading form a section without one. A section is the list of its blocks.
 -- Assumes nothing.
-use Rattle.std.specs.Prelude.{ℕ, Bool, true, false, ◌&&◌, ◌≡◌, leb}
+use Rattle.std.specs.Prelude.{ℕ, Bool, true, false, ◌&&◌, ◌≡◌, leb, if◌then◌else◌}
 use mathlib.Core.List.{List, [], ◌∷◌, ◌++◌, Memᴰ}
 use Rattle.std.proofs.Math.Option.{Option, none, some}
-use Rattle.text.specs.Words.{if◌then◌else◌, case, same}
+use Rattle.text.specs.Words.{case, same}
 use Rattle.text.specs.Utf8.{encode}
 use Rattle.records.specs.Blocks.{Span, Block, Heading, joined}
 use Rattle.walker.specs.Answers.{level_of}

@@ -7,7 +7,8 @@ use mathlib.Core.Bool.{Bool, true, false, not, cond, ◌&&◌, and_assoc, and-tr
 use mathlib.Core.List.{List, [], ◌∷◌, ◌++◌}
 use lib.Dec.{eqb}
 use lib.ListN.{length}
-use Rattle.text.specs.Words.{if◌then◌else◌, str}
+use Rattle.std.specs.Prelude.{if◌then◌else◌}
+use Rattle.text.specs.Words.{str}
 use Rattle.text.specs.Utf8.{size, utf8}
 use Rattle.text.proofs.Laws.{utf8_size}
 use Rattle.text.proofs.Utf8.{utf8_1}

@@ -1,8 +1,7 @@
 -- What the code keeps of a run's text, and of the runs of a line.
 -- Assumes nothing.
-use Rattle.std.specs.Prelude.{ℕ, ◌+◌, ◌*◌, ◌≤◌, ◌≡◌, Bool, true, not, ◌&&◌, List, [], ◌∷◌, eqb, length}
+use Rattle.std.specs.Prelude.{ℕ, ◌+◌, ◌*◌, ◌≤◌, ◌≡◌, Bool, true, not, ◌&&◌, List, [], ◌∷◌, eqb, length, if◌then◌else◌}
 use Rattle.std.proofs.Math.Option.{none, some}
-use Rattle.text.specs.Words.{if◌then◌else◌}
 use Rattle.text.specs.Chars.{is_letter}
 use Rattle.html.specs.State.{special}
 use Rattle.records.specs.Format.{non_empty}

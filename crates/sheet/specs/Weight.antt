@@ -1,7 +1,6 @@
 -- What the code's counts say of a text: its bytes and its characters, each at most 20,000; and the limits of a sheet.
 -- Assumes nothing.
-use Rattle.std.specs.Prelude.{ℕ, ◌+◌, ◌-◌, min, List, length}
-use Rattle.text.specs.Words.{if◌then◌else◌}
+use Rattle.std.specs.Prelude.{ℕ, ◌+◌, ◌-◌, min, List, length, if◌then◌else◌}
 use Rattle.text.specs.Utf8.{size}
 use Rattle.sheet.specs.Sheet.{within_limits}
 use Rattle.sheet.specs.declared.count.Count.{Count}

@@ -1,7 +1,7 @@
 -- The written form of a tree, and its blocks (document 01, "Sheet": "Tree" and "Written form").
 -- Assumes nothing.
-use Rattle.std.specs.Prelude.{ℕ, zero, suc, min, true, false, List, [], ◌∷◌, ◌++◌, map}
-use Rattle.text.specs.Words.{if◌then◌else◌, str, repeat}
+use Rattle.std.specs.Prelude.{ℕ, zero, suc, min, true, false, List, [], ◌∷◌, ◌++◌, map, if◌then◌else◌}
+use Rattle.text.specs.Words.{str, repeat}
 use Rattle.text.specs.Decimal.{decimal}
 use Rattle.html.specs.State.{special}
 use Rattle.records.specs.Blocks as B

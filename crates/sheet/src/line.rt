@@ -1,7 +1,6 @@
 // A line of a sheet: the characters of its text, the text of a run, a run, the runs.
-ghost use Rattle.std.specs.Prelude.{◌≡◌, [], ◌∷◌, length};
+ghost use Rattle.std.specs.Prelude.{◌≡◌, [], ◌∷◌, length, if◌then◌else◌};
 ghost use Rattle.text.specs.Chars.{is_letter};
-ghost use Rattle.text.specs.Words.{if◌then◌else◌};
 ghost use Rattle.sheet.specs.Grammar.{shown, before, after, is_plain, has_em, touch};
 ghost use Rattle.sheet.specs.Reader.{referred, char, one_run, line};
 ghost use Rattle.sheet.specs.Written.{escaped, sign, written_runs};

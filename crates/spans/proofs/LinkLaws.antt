@@ -10,7 +10,8 @@ use mathlib.Core.Option.{Option, none, some}
 use mathlib.Core.List.{List, [], ◌∷◌, map}
 use lib.ListN.{length, take, drop, length-drop}
 use lib.Dec.{eqb}
-use Rattle.text.specs.Words.{if◌then◌else◌, ◌>>=◌, is, is_empty, starts, index, find}
+use Rattle.std.specs.Prelude.{if◌then◌else◌}
+use Rattle.text.specs.Words.{◌>>=◌, is, is_empty, starts, index, find}
 use Rattle.text.proofs.Tests.{on, by_case, true_false, then_some, ensure_some}
 use Rattle.records.specs.Blocks.{Span}
 use Rattle.spans.specs.Spans.{Walk, link, Step, made, label, code_step, star_step, link_step, image_step, step, carry, walk}

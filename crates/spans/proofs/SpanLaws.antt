@@ -6,7 +6,8 @@ use native.Mathlib.Omega.{arith}
 use mathlib.Core.Bool.{true, false, not}
 use mathlib.Core.List.{List, [], ◌∷◌, ◌++◌, map, reverse, append_assoc}
 use lib.ListN.{length, take, drop, length-drop, length-take}
-use Rattle.text.specs.Words.{if◌then◌else◌, is_empty}
+use Rattle.std.specs.Prelude.{if◌then◌else◌}
+use Rattle.text.specs.Words.{is_empty}
 use Rattle.text.proofs.Tests.{false_true}
 use Rattle.records.specs.Blocks.{Span}
 use Rattle.spans.specs.Spans.{Walk, at, span, flush, cleared, Step, made, label, step, carry, labelled, on_step, walk, spans_at, spans}

@@ -1,7 +1,6 @@
 -- The spans that `spans` of the code writes for a line of bytes (document 01, "Block reader").
 -- Assumes nothing.
-use Rattle.std.specs.Prelude.{ℕ, ◌^◌, ◌&&◌, List, [], leb, length}
-use Rattle.text.specs.Words.{if◌then◌else◌}
+use Rattle.std.specs.Prelude.{ℕ, ◌^◌, ◌&&◌, List, [], leb, length, if◌then◌else◌}
 use Rattle.text.specs.Utf8.{chars}
 use Rattle.records.specs.Blocks.{Span}
 use Rattle.spans.specs.Spans.{spans}

@@ -1,8 +1,8 @@
 -- `spans` of notes.rs: a line's bold, italic and code, links shown as their label, images dropped (document 01, "Block reader").
 -- Assumes nothing.
-use Rattle.std.specs.Prelude.{ℕ, zero, suc, ◌+◌, Bool, true, false, not, ◌&&◌, ◌||◌, List, [], ◌∷◌, ◌++◌, map, reverse, length, take, drop, get_or}
+use Rattle.std.specs.Prelude.{ℕ, zero, suc, ◌+◌, Bool, true, false, not, ◌&&◌, ◌||◌, List, [], ◌∷◌, ◌++◌, map, reverse, length, take, drop, get_or, if◌then◌else◌}
 use Rattle.std.proofs.Math.Option.{Option, some}
-use Rattle.text.specs.Words.{if◌then◌else◌, ◌>>=◌, ensure, case, is, is_empty, starts, find}
+use Rattle.text.specs.Words.{◌>>=◌, ensure, case, is, is_empty, starts, find}
 use Rattle.records.specs.Blocks.{Span}
 
 -- where the walk stands: the emphasis, and the text that is in no span yet, last character first

@@ -1,9 +1,9 @@
 -- What the functions below `spans` answer and store.
 -- Assumes nothing.
-use Rattle.std.specs.Prelude.{◌≡◌, ℕ, zero, suc, ◌+◌, ◌-◌, ◌*◌, ◌^◌, ◌<◌, ◌≤◌, Bool, true, false, List, [], ◌∷◌, reverse, length, drop, get_or, ltb}
+use Rattle.std.specs.Prelude.{◌≡◌, ℕ, zero, suc, ◌+◌, ◌-◌, ◌*◌, ◌^◌, ◌<◌, ◌≤◌, Bool, true, false, List, [], ◌∷◌, reverse, length, drop, get_or, ltb, if◌then◌else◌}
 use Rattle.std.proofs.Math.Option.{Option, none, some}
 use Rattle.std.proofs.lemmas.List.Edits.{sets}
-use Rattle.text.specs.Words.{if◌then◌else◌, index}
+use Rattle.text.specs.Words.{index}
 use Rattle.text.specs.Find.{found}
 use Rattle.text.specs.declared.Found.{Found}
 use Rattle.records.specs.Blocks.{Span}

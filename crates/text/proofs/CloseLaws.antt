@@ -11,7 +11,8 @@ use lib.Dec.{ltb}
 use lib.ListN.{length, drop, length-drop}
 use lib.Seq.{drop-drop, drop-length}
 use borrow.Author.Tests.{ne_eqb, ltb-true, ltb-false}
-use Rattle.text.specs.Words.{if◌then◌else◌, ◌>>=◌, case, starts, index, find}
+use Rattle.std.specs.Prelude.{if◌then◌else◌}
+use Rattle.text.specs.Words.{◌>>=◌, case, starts, index, find}
 use Rattle.text.specs.Utf8.{utf8, chars, stray}
 use Rattle.text.proofs.Tests.{decide, starts_room}
 use Rattle.text.proofs.Utf8.{utf8_1}

@@ -10,7 +10,7 @@ use native.Mathlib.Omega.{arith}
 use lib.Dec.{leb, ltb, eqb}
 use lib.ListN.{length, get_or, take, drop, length-append, get_or-append}
 use lib.Seq.{take-append_seam, drop-append-add, drop-cons}
-use Rattle.text.specs.Words.{if◌then◌else◌}
+use Rattle.std.specs.Prelude.{if◌then◌else◌}
 use Rattle.text.specs.Utf8.{IsScalar, utf8, encode, tail, char, size_of, stray, chars, size}
 use Rattle.text.specs.Cut.{cut, splits, cut_end}
 use Rattle.text.specs.declared.Char.{Char}

@@ -12,7 +12,8 @@ use lib.Dec.{ltb, eqb, leb-suc-suc}
 use lib.ListN.{length, get_or, take, drop, drop_of_length-le, length-drop, length-append}
 use lib.Seq.{drop-drop, drop-append_seam, take-append_seam, drop-append-add}
 use Rattle.text.specs.Utf8.{IsScalar, utf8, tail, char, stray, chars}
-use Rattle.text.specs.Words.{if◌then◌else◌, ◌>>=◌, index, take_while}
+use Rattle.std.specs.Prelude.{if◌then◌else◌}
+use Rattle.text.specs.Words.{◌>>=◌, index, take_while}
 use Rattle.text.specs.Run.{RunTo, other}
 use Rattle.text.specs.Find.{found, until, since}
 use Rattle.text.specs.declared.Found.TheVariants.{Here, Nowhere}

@@ -10,7 +10,7 @@ use native.Mathlib.Omega.{arith}
 use lib.Dec.{leb, ltb}
 use lib.ListN.{length, get_or, drop, drop_of_length-le}
 use lib.Seq.{drop-append_seam, drop-cons, get_or-drop}
-use Rattle.text.specs.Words.{if◌then◌else◌}
+use Rattle.std.specs.Prelude.{if◌then◌else◌}
 use Rattle.text.specs.Chars.{within}
 use Rattle.text.specs.Utf8.{IsScalar, utf8, tail, row, starts3, starts4, given, join, char_of, char, char_size, stray, FourAt}
 use Rattle.text.specs.declared.Char.{Char}

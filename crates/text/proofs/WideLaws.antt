@@ -9,7 +9,7 @@ use borrow.Author.Tests.{ne_eqb, lt-leb, lt-ltb, ltb-true, ltb-false, eqb-true}
 use native.Mathlib.Omega.{arith}
 use lib.Dec.{ltb, eqb}
 use lib.ListN.{length, get_or, drop}
-use Rattle.text.specs.Words.{if◌then◌else◌}
+use Rattle.std.specs.Prelude.{if◌then◌else◌}
 use Rattle.text.specs.Chars.{within, is_space}
 use Rattle.text.specs.Utf8.{tail, starts3, given, join, char_of, char, char_size, size_of, stray, chars}
 use Rattle.text.specs.Trim.{trim_start, is_blank, wide_space, is_space_of, space_at}

@@ -1,7 +1,6 @@
 -- Classes of characters: White_Space and control, by document 01, "Characters"; Unicode scalar values; ASCII digits and letters.
 -- Assumes nothing.
-use Rattle.std.specs.Prelude.{ℕ, ◌+◌, ◌<◌, Bool, ◌&&◌, ◌||◌, List, [], ◌∷◌, leb, ltb, eqb}
-use Rattle.text.specs.Words.{if◌then◌else◌}
+use Rattle.std.specs.Prelude.{ℕ, ◌+◌, ◌<◌, Bool, ◌&&◌, ◌||◌, List, [], ◌∷◌, leb, ltb, eqb, if◌then◌else◌}
 
 -- low ≤ c ≤ high
 abbrev pub within : ℕ → ℕ → ℕ → Bool

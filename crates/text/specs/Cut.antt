@@ -1,7 +1,6 @@
 -- The first n bytes of a text, fewer where a character would be split.
 -- Assumes nothing.
-use Rattle.std.specs.Prelude.{ℕ, ◌-◌, Bool, ◌&&◌, List, [], ◌∷◌, leb, ltb, length, drop}
-use Rattle.text.specs.Words.{if◌then◌else◌}
+use Rattle.std.specs.Prelude.{ℕ, ◌-◌, Bool, ◌&&◌, List, [], ◌∷◌, leb, ltb, length, drop, if◌then◌else◌}
 use Rattle.text.specs.Utf8.{utf8, char, size_of}
 
 unfoldable pub cut : ℕ → List ℕ → List ℕ

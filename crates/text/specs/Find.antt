@@ -1,8 +1,8 @@
 -- Where the code finds something: the answer of a search that started at an offset, and the parts of a text before and after it.
 -- Assumes nothing.
-use Rattle.std.specs.Prelude.{ℕ, ◌+◌, cond, List, [], ◌∷◌, eqb, length, drop}
+use Rattle.std.specs.Prelude.{ℕ, ◌+◌, cond, List, [], ◌∷◌, eqb, length, drop, if◌then◌else◌}
 use Rattle.std.proofs.Math.Option.{Option, none, some}
-use Rattle.text.specs.Words.{if◌then◌else◌, case, starts, find}
+use Rattle.text.specs.Words.{case, starts, find}
 use Rattle.text.specs.declared.Found.{Found}
 use Rattle.text.specs.declared.Found.TheVariants.{Here, Nowhere}
 

@@ -1,7 +1,6 @@
 -- What a call that writes a result answers: document 01, "Where each call says no".
 -- Assumes nothing.
-use Rattle.std.specs.Prelude.{ℕ, ◌||◌, List, [], ◌++◌, eqb, length, drop, replicate}
-use Rattle.text.specs.Words.{if◌then◌else◌}
+use Rattle.std.specs.Prelude.{ℕ, ◌||◌, List, [], ◌++◌, eqb, length, drop, replicate, if◌then◌else◌}
 
 -- a refusal's number, or the bytes written to the front of the result
 pub data Outcome : Type 0 where

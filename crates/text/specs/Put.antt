@@ -1,8 +1,7 @@
 -- A character written into a buffer.
 -- Assumes nothing.
-use Rattle.std.specs.Prelude.{ℕ, ◌+◌, ◌<◌, Bool, ◌&&◌, List, [], ◌∷◌, ◌≡◌, ltb, leb, length, take}
+use Rattle.std.specs.Prelude.{ℕ, ◌+◌, ◌<◌, Bool, ◌&&◌, List, [], ◌∷◌, ◌≡◌, ltb, leb, length, take, if◌then◌else◌}
 use Rattle.std.proofs.lemmas.List.Edits.{sets}
-use Rattle.text.specs.Words.{if◌then◌else◌}
 use Rattle.text.specs.Utf8.{utf8}
 use Rattle.text.specs.declared.decoding.Four.{Four}
 

@@ -1,7 +1,7 @@
 -- Spaces taken off the ends of a text: of its characters, and as offsets into its bytes.
 -- Assumes nothing.
-use Rattle.std.specs.Prelude.{ℕ, ◌-◌, Bool, false, ◌&&◌, ◌||◌, List, ltb, eqb, length, drop}
-use Rattle.text.specs.Words.{if◌then◌else◌, drop_while, trim_end_matches, trim_matches}
+use Rattle.std.specs.Prelude.{ℕ, ◌-◌, Bool, false, ◌&&◌, ◌||◌, List, ltb, eqb, length, drop, if◌then◌else◌}
+use Rattle.text.specs.Words.{drop_while, trim_end_matches, trim_matches}
 use Rattle.text.specs.Chars.{within, is_space}
 use Rattle.text.specs.Utf8.{encode, chars, char}
 use Rattle.text.specs.declared.Char.{Char}

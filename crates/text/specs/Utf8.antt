@@ -2,9 +2,9 @@
 -- A byte that belongs to no character is kept, as the code `0x110000 + byte`, which is no character's. So every list of bytes
 -- has its characters, and they encode to the same bytes; the bytes are UTF-8 where each of the characters is a scalar value.
 -- Assumes nothing.
-use Rattle.std.specs.Prelude.{ℕ, suc, zero, pred, ◌+◌, ◌*◌, ◌-◌, ◌/◌, ◌%◌, ◌≤◌, Bool, ◌&&◌, ◌||◌, List, [], ◌∷◌, ◌++◌, ◌⊎◌, ◌≡◌, leb, ltb, length, get_or, drop}
+use Rattle.std.specs.Prelude.{ℕ, suc, zero, pred, ◌+◌, ◌*◌, ◌-◌, ◌/◌, ◌%◌, ◌≤◌, Bool, ◌&&◌, ◌||◌, List, [], ◌∷◌, ◌++◌, ◌⊎◌, ◌≡◌, leb, ltb, length, get_or, drop, if◌then◌else◌}
 use Rattle.std.proofs.Math.Option.{Option, none, some}
-use Rattle.text.specs.Words.{if◌then◌else◌, all}
+use Rattle.text.specs.Words.{all}
 use Rattle.text.specs.Chars.{within, is_scalar}
 use Rattle.text.specs.declared.Char.{Char}
 use Rattle.text.specs.declared.decoding.Four.{Four}

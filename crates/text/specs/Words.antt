@@ -1,15 +1,10 @@
 -- The words that every definition is written in: a conditional, steps that may fail, literals, and Rust's operations on a `str`. A text is
--- the list of its characters' code points.
+-- the list of its characters' code points. antt computes both branches of an `if` but what a `let` binds, so a recursive call is bound by a `let`.
 -- Assumes nothing.
-use Rattle.std.specs.Prelude.{ℕ, zero, suc, Bool, true, false, cond, ◌&&◌, ◌||◌, List, [], ◌∷◌, ◌++◌, reverse, eqb}
+use Rattle.std.specs.Prelude.{ℕ, zero, suc, Bool, true, false, ◌&&◌, ◌||◌, List, [], ◌∷◌, ◌++◌, reverse, eqb, if◌then◌else◌}
 use Prim.Native.Char.{Char, code}
 use Prim.Native.String.{String, [] as nil, ◌∷◌ as cons}
 use Rattle.std.proofs.Math.Option.{Option, none, some}
-
--- antt computes both branches of an `if` but what a `let` binds, so a recursive call is bound by a `let`
-infixr 10 if◌then◌else◌
-abbrev pub if◌then◌else◌ : {A : Type 0} → Bool → A → A → A
-if b then x else y = cond b x y
 
 -- `?` and `and_then`, for `do`; and a test that must hold
 infixl 20 ◌>>=◌

@@ -1,6 +1,5 @@
 // UTF-8, by RFC 3629: the character at an offset.
-ghost use Rattle.std.specs.Prelude.{◌<◌, ◌≤◌, ◌≡◌, true, length, get_or, drop};
-ghost use Rattle.text.specs.Words.{if◌then◌else◌};
+ghost use Rattle.std.specs.Prelude.{◌<◌, ◌≤◌, ◌≡◌, true, length, get_or, drop, if◌then◌else◌};
 ghost use Rattle.text.specs.Utf8.{tail, starts3, starts4, join, char_of, char, size_of, char_size, char_code, FourAt, code_at, is_utf8};
 
 use crate::Char;

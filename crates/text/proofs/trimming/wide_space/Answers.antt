@@ -7,7 +7,7 @@ use mathlib.Core.Path.{◌≡◌, sym, ◌∙◌}
 use borrow.Author.Tests.{not-true, not-false}
 use Prim.Native.Nat.{◌+◌, ◌-◌}
 use lib.ListN.{get_or, drop}
-use Rattle.text.specs.Words.{if◌then◌else◌}
+use Rattle.std.specs.Prelude.{if◌then◌else◌}
 use Rattle.text.specs.Chars.{is_space}
 use Rattle.text.specs.Utf8.{tail, join, char}
 use Rattle.text.specs.Trim.{wide_space}
