@@ -1,5 +1,5 @@
 //! Safe calls over the C library: a page to Markdown, Markdown to block records, iterators over the records, and their sections.
-//! Compile it as a module and link with libcapi.a (`-L native=target/staticlib -l static=capi`); include/release_notes.h says what each C
+//! Compile it as a module and link with libcapi.a (`-L native=crates/capi/out -l static=capi`); include/release_notes.h says what each C
 //! call does. The C calls keep no state, so the functions here may run on any number of threads at once.
 #![allow(dead_code)] // a program seldom needs every call
 

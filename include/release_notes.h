@@ -1,7 +1,7 @@
 /*
  * Release notes: an HTML page to short Markdown, Markdown to block records, a walker that reads the records, and their sections.
  *
- * Link with libcapi.a, which `rt staticlib capi` writes to target/staticlib (x86-64 Linux). It needs memcpy and memset, nothing else.
+ * Link with libcapi.a, which `rt lib` in crates/capi writes to its folder out (x86-64 Linux). It needs memcpy and memset, nothing else.
  *
  * What holds for every call:
  * - It allocates nothing and keeps no state: all that it reads and writes is lent by the caller, for that one call.
