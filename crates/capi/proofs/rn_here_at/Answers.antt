@@ -1,5 +1,6 @@
 -- `capi::rn_here_at` meets its contract: each case of the answer is given the values that the definition gives it.
 -- Assumes nothing.
+use native.Mathlib.Omega.{arith}
 use mathlib.Core.Path.{sym, ap, ◌∙◌}
 use Rattle.walker.specs.Numbers.{here_values}
 use Rattle.walker.proofs.PlaceLaws.{here_ordered}
@@ -9,8 +10,8 @@ use Rattle.capi.proofs.rn_here_at.Goals as goal
 pub overflow_sub-result : goal.overflow_sub-result
 overflow_sub-result c =
     let a = c.args in
-    here_ordered a.records.now a.at
-    (ap here_values (sym c.in-Span.is) ∙ c.here_at.ensures)
+    let h = here_ordered a.records.now a.at (ap here_values (sym c.in-Span.is) ∙ c.here_at.ensures) in
+    omega arith
 
 pub returns-in-Span : goal.returns-in-Span
 returns-in-Span c =
