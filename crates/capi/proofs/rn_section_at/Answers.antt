@@ -18,7 +18,7 @@ answered c e = ap section_values (sym e) ∙ c.section_at.ensures
 pub overflow_sub-length : goal.overflow_sub-length
 overflow_sub-length c =
     let a = c.args in
-    let b = bytes_are a.records.now c.shared_slice_known-1.given in
+    let b = bytes_are a.records.now c.type_inv.records in
     (section_found a.records.now a.title.now b (sym (answered (goal.at.overflow_sub-length c).After-section_at c.in-At.is))).part.within.order
 
 pub returns-in-At : goal.returns-in-At

@@ -12,22 +12,22 @@ pub returns-then-n-gt65536 : goal.returns-then-n-gt65536
 returns-then-n-gt65536 c = too_long c.args.markdown.now c.args.work.now c.args.res.now c.if-n-gt65536.true
 
 pub returns-then-not-is_utf8 : goal.returns-then-not-is_utf8
-returns-then-not-is_utf8 c = not_utf8 c.args.markdown.now c.args.work.now c.args.res.now c.if-n-gt65536.false (sym c.is_utf8.ensures ∙ not-true _ c.if-not-is_utf8.true-raw)
+returns-then-not-is_utf8 c = not_utf8 c.args.markdown.now c.args.work.now c.args.res.now c.if-n-gt65536.false (sym c.is_utf8.ensures ∙ c.if-not-is_utf8.true)
 
 pub returns-then-work-n : goal.returns-then-work-n
-returns-then-work-n c = small_work c.args.markdown.now c.args.work.now c.args.res.now c.if-n-gt65536.false (sym c.is_utf8.ensures ∙ not-false _ c.if-not-is_utf8.false-raw) c.if-work-n.true
+returns-then-work-n c = small_work c.args.markdown.now c.args.work.now c.args.res.now c.if-n-gt65536.false (sym c.is_utf8.ensures ∙ c.if-not-is_utf8.false) c.if-work-n.true
 
 pub read-end-requires : goal.read-end-requires
-read-end-requires c = (c.if-n-gt65536.false, (sym c.is_utf8.ensures ∙ not-false _ c.if-not-is_utf8.false-raw, c.if-work-n.false))
+read-end-requires c = (c.if-n-gt65536.false, (sym c.is_utf8.ensures ∙ c.if-not-is_utf8.false, c.if-work-n.false))
 
 pub returns-then-res-end : goal.returns-then-res-end
 returns-then-res-end c =
     let r = c.read-end.ensures in
     let k = c.read-end.auto.out in
-    small_result c.args.markdown.now c.args.work.now c.args.res.now c.if-n-gt65536.false (sym c.is_utf8.ensures ∙ not-false _ c.if-not-is_utf8.false-raw) c.if-work-n.false c.read-end.new.work _ (omega (arith, c.if-res-end.true, k, r.0)) (c.clear.ensures ∙ ap (λ (n : ℕ). replicate n 0) k)
+    small_result c.args.markdown.now c.args.work.now c.args.res.now c.if-n-gt65536.false (sym c.is_utf8.ensures ∙ c.if-not-is_utf8.false) c.if-work-n.false c.read-end.new.work _ (omega (arith, c.if-res-end.true, k, r.0)) (c.clear.ensures ∙ ap (λ (n : ℕ). replicate n 0) k)
 
 pub returns : goal.returns
 returns c =
     let r = c.read-end.ensures in
     let k = c.read-end.auto.out in
-    all_written c.args.markdown.now c.args.work.now c.args.res.now c.if-n-gt65536.false (sym c.is_utf8.ensures ∙ not-false _ c.if-not-is_utf8.false-raw) c.if-work-n.false c.read-end.new.work _ _ r.0 (omega (arith, c.if-res-end.false, k)) r.1
+    all_written c.args.markdown.now c.args.work.now c.args.res.now c.if-n-gt65536.false (sym c.is_utf8.ensures ∙ c.if-not-is_utf8.false) c.if-work-n.false c.read-end.new.work _ _ r.0 (omega (arith, c.if-res-end.false, k)) r.1

@@ -17,7 +17,7 @@ number_of : (c : In-Is) → written c.args.name.now ≡ some c.in-Is.c
 number_of c = value_some _ _ (sym c.written.ensures ∙ c.in-Is.is)
 
 scalar : (c : Else-not-is_scalar) → is_scalar c.in-Is.c ≡ true
-scalar c = sym c.is_scalar.ensures ∙ not-false c.is_scalar.result c.if-not-is_scalar.false-raw
+scalar c = sym c.is_scalar.ensures ∙ c.if-not-is_scalar.false
 
 pub returns-in_default : goal.returns-in_default
 returns-in_default c =
@@ -27,7 +27,7 @@ pub returns-then-not-is_scalar : goal.returns-then-not-is_scalar
 returns-then-not-is_scalar c =
     sym
     (ap value
-    (number_no_scalar c.args.name.now _ (number_of (goal.at.returns-then-not-is_scalar c).In-Is) (sym c.is_scalar.ensures ∙ not-true c.is_scalar.result c.if-not-is_scalar.true-raw)))
+    (number_no_scalar c.args.name.now _ (number_of (goal.at.returns-then-not-is_scalar c).In-Is) (sym c.is_scalar.ensures ∙ c.if-not-is_scalar.true)))
 
 pub returns-then-is_control : goal.returns-then-is_control
 returns-then-is_control c =

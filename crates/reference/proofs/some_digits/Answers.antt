@@ -29,7 +29,7 @@ pub bounds-s-j : goal.bounds-s-j
 bounds-s-j c = omega arith
 
 pub overflow_cast-s : goal.overflow_cast-s
-overflow_cast-s c = omega (arith, c.shared_slice_known-in-loop-j-1.given c.loop-j.j)
+overflow_cast-s c = omega (arith, c.type_inv.s c.loop-j.j)
 
 pub digit-d-requires : goal.digit-d-requires
 digit-d-requires c = tt

@@ -25,7 +25,7 @@ closed : (c : Else-not-starts_with) → let a = c.args in Stands a.tag.now a.pag
 closed c =
     let a = c.args in
     stands a.tag.now a.page.now c.in-At.next c.requires c.starts_with.ensures
-    (not-false c.starts_with.result c.if-not-starts_with.false-raw)
+    c.if-not-starts_with.false
 
 pub returns-in_default : goal.returns-in_default
 returns-in_default c =
@@ -40,7 +40,7 @@ returns-then-not-starts_with c =
     let w = has_line (goal.at.returns-then-not-starts_with c).In-At in
     refuses (led a.lead) a.page.now a.at (closed_by a.tag.now (from a.page.now a.at))
     (closed_2 a.tag.now (from a.page.now a.at) w.what _ w.is
-    (missing a.tag.now a.page.now c.in-At.next c.requires c.starts_with.ensures (not-true c.starts_with.result c.if-not-starts_with.true-raw)))
+    (missing a.tag.now a.page.now c.in-At.next c.requires c.starts_with.ensures c.if-not-starts_with.true))
 
 pub overflow_add-result : goal.overflow_add-result
 overflow_add-result c = omega (arith, (closed c).within (has_line (goal.at.overflow_add-result c).In-At).within)

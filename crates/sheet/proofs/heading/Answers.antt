@@ -25,20 +25,20 @@ tested c = c.within.ensures ∙ ap (within 49 54) c.code_at-c.ensures
 digit : (c : Else-not-within) → let a = c.args in (49 ≤ c.code_at-c.result) × (c.code_at-c.result ≤ 54) × (a.at < length a.page.now)
 digit c =
     let a = c.args in
-    let h = heading_in a.page.now a.at (tested (goal.at.Else-not-within c).After-within) (not-false c.within.result c.if-not-within.false-raw) in
+    let h = heading_in a.page.now a.at (tested (goal.at.Else-not-within c).After-within) c.if-not-within.false in
     (omega (arith, c.code_at-c.ensures, h.0), omega (arith, c.code_at-c.ensures, h.1), h.2)
 
 -- and the end of the tag
 opened : (c : Else-not-starts_with) → let a = c.args in Stands (str ">") a.page.now (a.at + 1)
 opened c =
     let a = c.args in
-    stands (str ">") a.page.now (a.at + 1) refl c.starts_with.ensures (not-false c.starts_with.result c.if-not-starts_with.false-raw)
+    stands (str ">") a.page.now (a.at + 1) refl c.starts_with.ensures c.if-not-starts_with.false
 
 pub returns-then-not-within : goal.returns-then-not-within
 returns-then-not-within c =
     let a = c.args in
     refuses block_form a.page.now a.at (headed (from a.page.now a.at))
-    (headed_1 a.page.now a.at (tested (goal.at.returns-then-not-within c).After-within) (not-true c.within.result c.if-not-within.true-raw))
+    (headed_1 a.page.now a.at (tested (goal.at.returns-then-not-within c).After-within) c.if-not-within.true)
 
 pub overflow_sub-n : goal.overflow_sub-n
 overflow_sub-n c = omega (arith, digit c)
@@ -53,8 +53,8 @@ pub returns-then-not-starts_with : goal.returns-then-not-starts_with
 returns-then-not-starts_with c =
     let a = c.args in
     refuses block_form a.page.now a.at (headed (from a.page.now a.at))
-    (headed_2 a.page.now a.at (tested (goal.at.returns-then-not-starts_with c).After-within) (not-false c.within.result c.if-not-within.false-raw) c.code_at-c.ensures
-    (missing (str ">") a.page.now (a.at + 1) refl c.starts_with.ensures (not-true c.starts_with.result c.if-not-starts_with.true-raw)))
+    (headed_2 a.page.now a.at (tested (goal.at.returns-then-not-starts_with c).After-within) c.if-not-within.false c.code_at-c.ensures
+    (missing (str ">") a.page.now (a.at + 1) refl c.starts_with.ensures c.if-not-starts_with.true))
 
 pub overflow_add-close : goal.overflow_add-close
 overflow_add-close c = omega (arith, digit (goal.at.overflow_add-close c).Else-not-within)
@@ -68,5 +68,5 @@ closed_by-requires c = close_ascii (c.code_at-c.result - 48) (omega (arith, digi
 pub returns : goal.returns
 returns c =
     let a = c.args in
-    headed_3 a.page.now a.at (tested (goal.at.returns c).After-within) (not-false c.within.result c.if-not-within.false-raw) c.code_at-c.ensures
+    headed_3 a.page.now a.at (tested (goal.at.returns c).After-within) c.if-not-within.false c.code_at-c.ensures
     (opened (goal.at.returns c).Else-not-starts_with).off c.level.ensures c.closed_by.result c.closed_by.ensures

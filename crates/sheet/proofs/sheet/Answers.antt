@@ -14,7 +14,7 @@ use Rattle.sheet.proofs.sheet.Goals as goal
 pub returns-then-not-is_utf8 : goal.returns-then-not-is_utf8
 returns-then-not-is_utf8 c =
     let a = c.args in
-    call_0 a.page.now (sym c.is_utf8.ensures ∙ not-true c.is_utf8.result c.if-not-is_utf8.true-raw)
+    call_0 a.page.now (sym c.is_utf8.ensures ∙ c.if-not-is_utf8.true)
 
 pub loop-next-init : goal.loop-next-init
 loop-next-init c =
@@ -38,7 +38,7 @@ pub returns-then-pos-page : goal.returns-then-pos-page
 returns-then-pos-page c =
     let a = c.args in
     call_1 a.page.now
-    (sym c.is_utf8.ensures ∙ not-false c.is_utf8.result c.if-not-is_utf8.false-raw)
+    (sym c.is_utf8.ensures ∙ c.if-not-is_utf8.false)
     c.nl-pos.result c.nl-pos.ensures
     c.loop-next.invariant
     (says_no block_form a.page.now c.loop-next.pos (block (from a.page.now c.loop-next.pos)) c.block.ensures c.in_default.is)
@@ -48,7 +48,7 @@ pub returns : goal.returns
 returns c =
     let a = c.args in
     ap answer c.judged.ensures ∙ call_2 a.page.now
-    (sym c.is_utf8.ensures ∙ not-false c.is_utf8.result c.if-not-is_utf8.false-raw)
+    (sym c.is_utf8.ensures ∙ c.if-not-is_utf8.false)
     c.nl-pos.result c.nl-pos.ensures
     c.loop-next.invariant
     (says_no block_form a.page.now c.loop-next.pos (block (from a.page.now c.loop-next.pos)) c.block.ensures c.in_default.is)

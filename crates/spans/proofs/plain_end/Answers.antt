@@ -11,7 +11,7 @@ pub returns-then-not-is_plain : goal.returns-then-not-is_plain
 returns-then-not-is_plain c = c.loop-j.invariant
 
 pub loop-j-preserved : goal.loop-j-preserved
-loop-j-preserved c = plain_next _ _ _ c.loop-j.invariant c.loop-j-test.true (rw (not-false c.is_plain.result c.if-not-is_plain.false-raw) at c.is_plain.ensures)
+loop-j-preserved c = plain_next _ _ _ c.loop-j.invariant c.loop-j-test.true (rw c.if-not-is_plain.false at c.is_plain.ensures)
 
 pub returns : goal.returns
 returns c = c.loop-j.invariant

@@ -29,7 +29,7 @@ pub loop-j-preserved : goal.loop-j-preserved
 loop-j-preserved c =
     let v = c.loop-j.invariant in
     let h = v.high in
-    past_block quiet _ _ 16 _ v (omega arith) (sym c.is_quiet_block.ensures ∙ not-false c.is_quiet_block.result c.if-not-is_quiet_block.false-raw)
+    past_block quiet _ _ 16 _ v (omega arith) (sym c.is_quiet_block.ensures ∙ c.if-not-is_quiet_block.false)
 
 pub returns : goal.returns
 returns c = c.loop-j.invariant

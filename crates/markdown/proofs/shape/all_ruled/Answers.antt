@@ -17,14 +17,14 @@ pub bounds-line-j : goal.bounds-line-j
 bounds-line-j c = c.loop-j-test.true
 
 pub returns-then-not-is_ruled : goal.returns-then-not-is_ruled
-returns-then-not-is_ruled c = sym (sym c.loop-j.invariant.0 ∙ ruled_stop _ _ c.loop-j-test.true (sym c.is_ruled.ensures ∙ not-true _ c.if-not-is_ruled.true-raw))
+returns-then-not-is_ruled c = sym (sym c.loop-j.invariant.0 ∙ ruled_stop _ _ c.loop-j-test.true (sym c.is_ruled.ensures ∙ c.if-not-is_ruled.true))
 
 pub overflow_add-j : goal.overflow_add-j
 overflow_add-j c = omega arith
 
 -- the byte at j is passed
 one : (c : Else-not-is_ruled) → all ruled (drop (c.loop-j.j + 1) c.args.line.now) ≡ all ruled (drop c.args.i c.args.line.now)
-one c = sym (ruled_next _ _ c.loop-j-test.true (sym c.is_ruled.ensures ∙ not-false _ c.if-not-is_ruled.false-raw)) ∙ c.loop-j.invariant.0
+one c = sym (ruled_next _ _ c.loop-j-test.true (sym c.is_ruled.ensures ∙ c.if-not-is_ruled.false)) ∙ c.loop-j.invariant.0
 
 pub ruled_blocks-j-requires : goal.ruled_blocks-j-requires
 ruled_blocks-j-requires c = omega (arith, c.loop-j-test.true)

@@ -10,13 +10,13 @@ pub returns-then-level-gt6 : goal.returns-then-level-gt6
 returns-then-level-gt6 c = title_long _ _ c.run_of-level.ensures c.if-level-gt6.true
 
 pub returns-then-not-starts_with : goal.returns-then-not-starts_with
-returns-then-not-starts_with c = title_other _ _ c.run_of-level.ensures (sym c.starts_with.ensures ∙ not-true _ c.if-not-starts_with.true-raw)
+returns-then-not-starts_with c = title_other _ _ c.run_of-level.ensures (sym c.starts_with.ensures ∙ c.if-not-starts_with.true)
 
 pub trimmed-t-requires : goal.trimmed-t-requires
-trimmed-t-requires c = title_inside _ _ c.run_of-level.ensures (sym c.starts_with.ensures ∙ not-false _ c.if-not-starts_with.false-raw)
+trimmed-t-requires c = title_inside _ _ c.run_of-level.ensures (sym c.starts_with.ensures ∙ c.if-not-starts_with.false)
 
 pub returns-then-level-lt3 : goal.returns-then-level-lt3
-returns-then-level-lt3 c = title_is _ _ c.run_of-level.ensures (sym c.starts_with.ensures ∙ not-false _ c.if-not-starts_with.false-raw) _ _ c.if-level-gt6.false c.trimmed-t.ensures (omega arith)
+returns-then-level-lt3 c = title_is _ _ c.run_of-level.ensures (sym c.starts_with.ensures ∙ c.if-not-starts_with.false) _ _ c.if-level-gt6.false c.trimmed-t.ensures (omega arith)
 
 pub returns : goal.returns
-returns c = title_is _ _ c.run_of-level.ensures (sym c.starts_with.ensures ∙ not-false _ c.if-not-starts_with.false-raw) _ _ c.if-level-gt6.false c.trimmed-t.ensures (omega arith)
+returns c = title_is _ _ c.run_of-level.ensures (sym c.starts_with.ensures ∙ c.if-not-starts_with.false) _ _ c.if-level-gt6.false c.trimmed-t.ensures (omega arith)

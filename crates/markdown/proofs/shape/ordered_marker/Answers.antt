@@ -17,13 +17,13 @@ pub returns-then-stop-at-gt9 : goal.returns-then-stop-at-gt9
 returns-then-stop-at-gt9 c = ordinal_many _ _ c.requires.0 c.requires.1 _ c.digits_end-stop.ensures c.if-stop-at-gt9.true
 
 pub returns-then-not-starts_with : goal.returns-then-not-starts_with
-returns-then-not-starts_with c = ordinal_other _ _ c.requires.0 c.requires.1 _ c.digits_end-stop.ensures (sym c.starts_with.ensures ∙ not-true _ c.if-not-starts_with.true-raw)
+returns-then-not-starts_with c = ordinal_other _ _ c.requires.0 c.requires.1 _ c.digits_end-stop.ensures (sym c.starts_with.ensures ∙ c.if-not-starts_with.true)
 
 pub overflow_add-stop : goal.overflow_add-stop
 overflow_add-stop c = omega (arith, digits_in _ _ c.requires.0 c.requires.1 _ c.digits_end-stop.ensures)
 
 pub trimmed-t-requires : goal.trimmed-t-requires
-trimmed-t-requires c = ordinal_inside _ _ c.requires.0 c.requires.1 _ c.digits_end-stop.ensures (sym c.starts_with.ensures ∙ not-false _ c.if-not-starts_with.false-raw)
+trimmed-t-requires c = ordinal_inside _ _ c.requires.0 c.requires.1 _ c.digits_end-stop.ensures (sym c.starts_with.ensures ∙ c.if-not-starts_with.false)
 
 pub returns : goal.returns
-returns c = ordinal_is _ _ c.requires.0 c.requires.1 _ c.digits_end-stop.ensures (sym c.starts_with.ensures ∙ not-false _ c.if-not-starts_with.false-raw) _ c.if-stop-at.false c.if-stop-at-gt9.false c.trimmed-t.ensures
+returns c = ordinal_is _ _ c.requires.0 c.requires.1 _ c.digits_end-stop.ensures (sym c.starts_with.ensures ∙ c.if-not-starts_with.false) _ c.if-stop-at.false c.if-stop-at-gt9.false c.trimmed-t.ensures

@@ -26,19 +26,19 @@ pub returns-then-not-suits : goal.returns-then-not-suits
 returns-then-not-suits c =
     let a = c.args in
     not_ran a.page.now a.at _
-    (run_1 a.page.now a.at c.kind_at-kind.result c.kind_at-kind.ensures c.before-2.result c.before-2.ensures c.scan-passage.result c.scan-passage.ensures (sym c.suits.ensures ∙ not-true c.suits.result c.if-not-suits.true-raw))
+    (run_1 a.page.now a.at c.kind_at-kind.result c.kind_at-kind.ensures c.before-2.result c.before-2.ensures c.scan-passage.result c.scan-passage.ensures (sym c.suits.ensures ∙ c.if-not-suits.true))
 
 pub returns-then-not-is_closed : goal.returns-then-not-is_closed
 returns-then-not-is_closed c =
     let a = c.args in
     not_ran a.page.now a.at _
-    (run_2 a.page.now a.at c.kind_at-kind.result c.kind_at-kind.ensures c.before-2.result c.before-2.ensures c.scan-passage.result c.scan-passage.ensures (sym c.suits.ensures ∙ not-false c.suits.result c.if-not-suits.false-raw) (no_tag (after (kind_of c.kind_at-kind.result)) a.page.now c.scan-passage.result.next c.is_closed.ensures (not-true c.is_closed.result c.if-not-is_closed.true-raw)))
+    (run_2 a.page.now a.at c.kind_at-kind.result c.kind_at-kind.ensures c.before-2.result c.before-2.ensures c.scan-passage.result c.scan-passage.ensures (sym c.suits.ensures ∙ c.if-not-suits.false) (no_tag (after (kind_of c.kind_at-kind.result)) a.page.now c.scan-passage.result.next c.is_closed.ensures c.if-not-is_closed.true))
 
 pub overflow_add-result : goal.overflow_add-result
 overflow_add-result c =
     let a = c.args in
     let i : a.at ≤ length a.page.now = omega (arith, c.if-page-at.false) in
-    omega (arith, run_bound a.page.now a.at c.kind_at-kind.result c.kind_at-kind.ensures c.before-2.result c.before-2.ensures c.scan-passage.result c.scan-passage.ensures (sym c.suits.ensures ∙ not-false c.suits.result c.if-not-suits.false-raw) i c.after.ensures c.is_closed.ensures (not-false c.is_closed.result c.if-not-is_closed.false-raw))
+    omega (arith, run_bound a.page.now a.at c.kind_at-kind.result c.kind_at-kind.ensures c.before-2.result c.before-2.ensures c.scan-passage.result c.scan-passage.ensures (sym c.suits.ensures ∙ c.if-not-suits.false) i c.after.ensures c.is_closed.ensures c.if-not-is_closed.false)
 
 pub returns : goal.returns
 returns c =
@@ -49,5 +49,5 @@ returns c =
     c.before-2.result
     c.before-2.ensures c.scan-passage.result
     c.scan-passage.ensures
-    (sym c.suits.ensures ∙ not-false c.suits.result c.if-not-suits.false-raw)
-    i c.after.ensures c.is_closed.ensures (not-false c.is_closed.result c.if-not-is_closed.false-raw)
+    (sym c.suits.ensures ∙ c.if-not-suits.false)
+    i c.after.ensures c.is_closed.ensures c.if-not-is_closed.false

@@ -27,7 +27,7 @@ li_open : (t : ℕ) (c : item-Else-not-starts_with t)
     → let a = c.args in Stands (str "<li>") a.page.now a.at
 li_open t c =
     let a = c.args in
-    let yes = not-false c.starts_with.result c.if-not-starts_with.false-raw in
+    let yes = c.if-not-starts_with.false in
     stands (str "<li>") a.page.now a.at refl c.starts_with.ensures yes
 
 -- its line was read
@@ -75,7 +75,7 @@ item-returns-then-not-starts_with t c =
     let a = c.args in
     let page = a.page.now in
     let s = from page a.at in
-    let no = not-true c.starts_with.result c.if-not-starts_with.true-raw in
+    let no = c.if-not-starts_with.true in
     refuses (item_form (7 - a.levels) a.place) page a.at (item_of (read_list a.levels) s)
     (item_1 (read_list a.levels) s (missing (str "<li>") page a.at refl c.starts_with.ensures no))
 

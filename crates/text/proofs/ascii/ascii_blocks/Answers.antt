@@ -25,7 +25,7 @@ loop-j-smaller c = let h = c.loop-j.invariant.high in omega arith
 pub loop-j-preserved : goal.loop-j-preserved
 loop-j-preserved c = let v = c.loop-j.invariant in
     let h = v.high in
-    past_block is_ascii _ _ 32 _ v (omega arith) (sym c.is_ascii_block.ensures ∙ not-false c.is_ascii_block.result c.if-not-is_ascii_block.false-raw)
+    past_block is_ascii _ _ 32 _ v (omega arith) (sym c.is_ascii_block.ensures ∙ c.if-not-is_ascii_block.false)
 
 pub loop-j-2-init : goal.loop-j-2-init
 loop-j-2-init c = c.loop-j.invariant
@@ -48,7 +48,7 @@ loop-j-2-smaller c = let h = c.loop-j-2.invariant.high in omega arith
 pub loop-j-2-preserved : goal.loop-j-2-preserved
 loop-j-2-preserved c = let v = c.loop-j-2.invariant in
     let h = v.high in
-    past_block is_ascii _ _ 8 _ v (omega arith) (sym c.is_ascii_word.ensures ∙ not-false c.is_ascii_word.result c.if-not-is_ascii_word.false-raw)
+    past_block is_ascii _ _ 8 _ v (omega arith) (sym c.is_ascii_word.ensures ∙ c.if-not-is_ascii_word.false)
 
 pub returns : goal.returns
 returns c = c.loop-j-2.invariant

@@ -42,8 +42,8 @@ returns-then-e-j c =
     let k = c.last_clear-j in
     let h = k.ensures.0.0 in
     let g = k.ensures.0.1 in (
-      fit_same a.s.now a.i k.result (omega arith) (omega arith) (omega arith) (sym c.is_clear.ensures ∙ not-false c.is_clear.result c.if-not-is_clear.false-raw) (k.ensures.1 c.if-e-j.true)
-          (λ m b d. c.is_fit_block.ensures (not-false c.is_fit_block.result c.if-not-is_fit_block.false-raw) m b (omega arith)),
+      fit_same a.s.now a.i k.result (omega arith) (omega arith) (omega arith) (sym c.is_clear.ensures ∙ c.if-not-is_clear.false) (k.ensures.1 c.if-e-j.true)
+          (λ m b d. c.is_fit_block.ensures c.if-not-is_fit_block.false m b (omega arith)),
       (omega arith, omega arith),
     )
 

@@ -6,7 +6,7 @@ use lib.ListN.{get_or-eq_default}
 use Rattle.text.proofs.decoding.byte.Goals as goal
 
 pub overflow_cast-result : goal.overflow_cast-result
-overflow_cast-result c = omega (arith, c.shared_slice_known-1.given c.args.i)
+overflow_cast-result c = omega (arith, c.type_inv.s c.args.i)
 
 pub returns-else-i-s : goal.returns-else-i-s
 returns-else-i-s c = sym (get_or-eq_default c.args.s.now 0 c.if-i-s.false)

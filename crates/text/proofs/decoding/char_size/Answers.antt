@@ -12,7 +12,7 @@ four_at-f-requires c = omega arith
 
 pub size_of-requires : goal.size_of-requires
 size_of-requires c =
-    let known = c.shared_slice_known-1.given in
+    let known = c.type_inv.s in
     let i = c.args.i in
     omega (arith, c.four_at-f.ensures.first, known i, c.four_at-f.ensures.second, known (i + 1))
 

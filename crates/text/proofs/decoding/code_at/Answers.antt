@@ -15,7 +15,7 @@ four_at-f-requires c = omega arith
 
 pub code_or_stray-requires : goal.code_or_stray-requires
 code_or_stray-requires c =
-    let known = c.shared_slice_known-1.given in
+    let known = c.type_inv.s in
     let i = c.args.i in
     omega (arith, c.four_at-f.ensures.first, known i, c.four_at-f.ensures.second, known (i + 1))
 

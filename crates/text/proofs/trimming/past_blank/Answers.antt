@@ -41,7 +41,7 @@ loop-j-smaller c = let h = c.loop-j.invariant.0.high in omega arith
 pub loop-j-preserved : goal.loop-j-preserved
 loop-j-preserved c = let v = c.loop-j.invariant in
     let h = v.0.high in
-    (past_block is_blank _ _ 32 _ v.0 (omega arith) (sym c.is_blank_block.ensures ∙ not-false c.is_blank_block.result c.if-not-is_blank_block.false-raw), omega (arith, v.1))
+    (past_block is_blank _ _ 32 _ v.0 (omega arith) (sym c.is_blank_block.ensures ∙ c.if-not-is_blank_block.false), omega (arith, v.1))
 
 pub returns : goal.returns
 returns c = c.loop-j.invariant

@@ -22,7 +22,7 @@ tails c = rw (c.is_tail.ensures, c.is_tail-2.ensures, c.byte-b-2.ensures, c.byte
 
 both : (c : Else-not-is_tail) → (tail c.byte-b-2.result ≡ true) × (tail c.byte-c.result ≡ true)
 both c =
-    let p = and_true c.is_tail.result c.is_tail-2.result (not-false _ c.if-not-is_tail.false-raw) in
+    let p = and_true c.is_tail.result c.is_tail-2.result c.if-not-is_tail.false in
     (sym c.is_tail.ensures ∙ p.0, sym c.is_tail-2.ensures ∙ p.1)
 
 three : (c : After-is_tail-2) → wide_space (char (drop c.args.i c.args.s.now))
@@ -39,7 +39,7 @@ pub returns-then-a-gt227 : goal.returns-then-a-gt227
 returns-then-a-gt227 c = sym (wide_none_at c.args.s.now c.args.i (omega arith) (λ e. c.if-a-eq194.false (c.wide-a.ensures ∙ e)) (inr (omega (arith, c.wide-a.ensures, c.if-a-gt227.true))))
 
 pub returns-then-not-is_tail : goal.returns-then-not-is_tail
-returns-then-not-is_tail c = sym (three (goal.at.returns-then-not-is_tail c).After-is_tail-2 ∙ rw (sym (tails (goal.at.returns-then-not-is_tail c).After-is_tail-2) ∙ not-true _ c.if-not-is_tail.true-raw))
+returns-then-not-is_tail c = sym (three (goal.at.returns-then-not-is_tail c).After-is_tail-2 ∙ rw (sym (tails (goal.at.returns-then-not-is_tail c).After-is_tail-2) ∙ c.if-not-is_tail.true))
 
 pub overflow_sub-a : goal.overflow_sub-a
 overflow_sub-a c = omega arith
@@ -51,4 +51,4 @@ pub join-requires-2 : goal.join-requires-2
 join-requires-2 c = (omega (arith, c.join.ensures, c.if-a-gt227.false, within_true 0x80 0xBF c.byte-b-2.result (both (goal.at.join-requires-2 c).Else-not-is_tail).0), (both (goal.at.join-requires-2 c).Else-not-is_tail).1)
 
 pub returns : goal.returns
-returns c = c.when-2.ensures ∙ rw (c.is_space.ensures, c.join-2.ensures, c.join.ensures, c.wide-a.ensures, c.byte-b-2.ensures, c.byte-c.ensures) (sym (three (goal.at.returns c).After-is_tail-2 ∙ rw (sym (tails (goal.at.returns c).After-is_tail-2) ∙ not-false _ c.if-not-is_tail.false-raw)))
+returns c = c.when-2.ensures ∙ rw (c.is_space.ensures, c.join-2.ensures, c.join.ensures, c.wide-a.ensures, c.byte-b-2.ensures, c.byte-c.ensures) (sym (three (goal.at.returns c).After-is_tail-2 ∙ rw (sym (tails (goal.at.returns c).After-is_tail-2) ∙ c.if-not-is_tail.false)))
