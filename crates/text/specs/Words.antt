@@ -1,4 +1,4 @@
--- The words that every definition is written in: a conditional, steps that may fail, literals, and Rust's operations on a `str`. A text is
+-- The words that every definition is written in: steps that may fail, literals, and Rust's operations on a `str`. A text is
 -- the list of its characters' code points. antt computes both branches of an `if` but what a `let` binds, so a recursive call is bound by a `let`.
 -- Assumes nothing.
 use Rattle.std.specs.Prelude.{ℕ, zero, suc, Bool, true, false, ◌&&◌, ◌||◌, List, [], ◌∷◌, ◌++◌, reverse, eqb, if◌then◌else◌}

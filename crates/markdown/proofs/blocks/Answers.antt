@@ -2,7 +2,6 @@
 -- Assumes nothing.
 use Rattle.markdown.proofs.CallLaws.{too_long, not_utf8, small_work, small_result, all_written}
 use lib.ListN.{replicate}
-use borrow.Author.Tests.{not-true, not-false}
 use native.Mathlib.Omega.{arith}
 use Prim.Native.Nat.{ℕ}
 use mathlib.Core.Path.{sym, ap, ◌∙◌}

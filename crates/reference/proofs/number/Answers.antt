@@ -3,7 +3,6 @@
 use mathlib.Core.Bool.{true}
 use mathlib.Core.Option.{some}
 use mathlib.Core.Path.{◌≡◌, sym, ap, ◌∙◌}
-use borrow.Author.Tests.{not-true, not-false}
 use Rattle.text.specs.Chars.{is_scalar}
 use Rattle.reference.specs.Unescape.{written}
 use Rattle.reference.specs.Answers.{value}

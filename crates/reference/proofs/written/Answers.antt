@@ -1,6 +1,5 @@
 -- `reference::written` meets its contract.
 -- Assumes nothing.
-use borrow.Author.Tests.{not-true, not-false}
 use mathlib.Core.Path.{sym, ap, ◌∙◌}
 use Rattle.reference.specs.Answers.{value}
 use Rattle.reference.proofs.NameLaws.{written_none, written_hexadecimal, written_decimal}

@@ -1,7 +1,6 @@
 -- `sheet::closed_by` meets its contract.
 -- Assumes nothing.
 use native.Mathlib.Omega.{arith}
-use borrow.Author.Tests.{not-true, not-false}
 use Rattle.sheet.specs.Says.{from}
 use Rattle.sheet.specs.Reader.{line, closed_by}
 use Rattle.sheet.specs.Written.{written_runs}

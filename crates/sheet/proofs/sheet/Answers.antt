@@ -2,7 +2,6 @@
 -- Assumes nothing.
 use mathlib.Core.Path.{sym, ◌∙◌, ap}
 use native.Mathlib.Omega.{arith}
-use borrow.Author.Tests.{not-true, not-false}
 use Rattle.sheet.specs.Reader.{block}
 use Rattle.sheet.specs.Says.{from}
 use Rattle.sheet.specs.Forms.{block_form}

@@ -1,6 +1,5 @@
 -- `plain_end` meets its contract: what was passed is text.
 -- Assumes nothing.
-use borrow.Author.Tests.{not-false}
 use Rattle.spans.proofs.Marks.{plain_start, plain_next}
 use Rattle.spans.proofs.plain_end.Goals as goal
 

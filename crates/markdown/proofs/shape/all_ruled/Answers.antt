@@ -3,7 +3,6 @@
 use Rattle.markdown.proofs.RuleLaws.{ruled, ruled_next, ruled_stop, ruled_run}
 use Rattle.text.specs.Words.{all}
 use lib.ListN.{drop, drop_of_length-le}
-use borrow.Author.Tests.{not-true, not-false}
 use native.Mathlib.Omega.{arith}
 use mathlib.Core.Path.{◌≡◌, refl, sym, ap, ◌∙◌}
 use Prim.Native.Nat.{◌+◌}

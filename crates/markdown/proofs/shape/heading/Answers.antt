@@ -1,7 +1,6 @@
 -- `markdown::shape::heading` meets its contract.
 -- Assumes nothing.
 use Rattle.markdown.proofs.ShapeLaws.{title_long, title_other, title_inside, title_is}
-use borrow.Author.Tests.{not-true, not-false}
 use native.Mathlib.Omega.{arith}
 use mathlib.Core.Path.{sym, ◌∙◌}
 use Rattle.markdown.proofs.shape.heading.Goals as goal

@@ -2,7 +2,6 @@
 -- Assumes nothing.
 use Rattle.markdown.proofs.ShapeLaws.{digits_in, ordinal_none, ordinal_many, ordinal_other, ordinal_inside, ordinal_is}
 use Rattle.text.proofs.TrimLaws.{start_le}
-use borrow.Author.Tests.{not-true, not-false}
 use native.Mathlib.Omega.{arith}
 use mathlib.Core.Path.{sym, ◌∙◌}
 use Rattle.markdown.proofs.shape.ordered_marker.Goals as goal

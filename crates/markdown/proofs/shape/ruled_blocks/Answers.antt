@@ -2,7 +2,6 @@
 -- Assumes nothing.
 use native.Mathlib.Omega.{arith}
 use mathlib.Core.Path.{sym, ◌∙◌}
-use borrow.Author.Tests.{not-false}
 use Rattle.text.proofs.RunLaws.{at_start, past_block}
 use Rattle.markdown.proofs.RuleLaws.{ruled}
 use Rattle.markdown.proofs.shape.ruled_blocks.Goals as goal

@@ -1,7 +1,6 @@
 -- `sheet::list::item` and `sheet::list::list`, which call each other, meet their contracts. The measure is the sum of the bytes that remain of the page
 -- from `at` on and of the levels. The bytes fall at each call: an item's list starts behind the item's line, a list's items behind its opening tag.
 -- The levels fall from a list to its items; an item's list has the item's. Assumes nothing.
-use borrow.Author.Tests.{not-true, not-false}
 use native.Mathlib.Omega.{arith}
 use mathlib.Core.Path.{◌≡◌, refl}
 use mathlib.Core.Option.{none}

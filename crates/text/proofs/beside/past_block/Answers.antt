@@ -2,7 +2,6 @@
 -- Assumes nothing.
 use native.Mathlib.Omega.{arith}
 use mathlib.Core.Path.{refl, sym, ◌∙◌}
-use borrow.Author.Tests.{not-false}
 use Rattle.text.proofs.BesideLaws.{fit_same}
 use Rattle.text.proofs.beside.past_block.Goals as goal
 

@@ -2,7 +2,6 @@
 -- Assumes nothing.
 use native.Mathlib.Omega.{arith}
 use mathlib.Core.Path.{sym, ◌∙◌}
-use borrow.Author.Tests.{not-false}
 use Rattle.text.specs.Run.{other}
 use Rattle.text.proofs.RunLaws.{at_start, past_block}
 use Rattle.text.proofs.search.other_blocks.Goals as goal

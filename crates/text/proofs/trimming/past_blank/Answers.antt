@@ -3,7 +3,6 @@
 use Prim.Native.Nat.{◌+◌}
 use native.Mathlib.Omega.{arith}
 use mathlib.Core.Path.{sym, ◌∙◌}
-use borrow.Author.Tests.{not-false}
 use Rattle.text.specs.Run.{RunTo}
 use Rattle.text.specs.Trim.{is_blank}
 use Rattle.text.proofs.RunLaws.{at_start, past_one, past_block}

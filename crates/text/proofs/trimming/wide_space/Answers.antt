@@ -4,7 +4,6 @@ use native.Mathlib.Omega.{arith}
 use mathlib.Core.Logic.{inl, inr}
 use mathlib.Core.Bool.{true, ◌&&◌}
 use mathlib.Core.Path.{◌≡◌, sym, ◌∙◌}
-use borrow.Author.Tests.{not-true, not-false}
 use Prim.Native.Nat.{◌+◌, ◌-◌}
 use lib.ListN.{get_or, drop}
 use Rattle.std.specs.Prelude.{if◌then◌else◌}
