@@ -5,7 +5,7 @@ use native.Mathlib.Nat.{le_refl}
 use native.Mathlib.Omega.{arith}
 use native.Mathlib.Numerals.{add-one, sub-one}
 use mathlib.Core.Path.{◌≡◌, refl, sym, ap, ap₂, ◌∙◌}
-use mathlib.Core.Bool.{Bool, true, false, and-true as and-true-right}
+use mathlib.Core.Bool.{Bool, true, false, and-true as and_true_right}
 use mathlib.Core.Logic.{inl, ⊎_elim}
 use mathlib.Core.List.{List, [], ◌∷◌, ◌++◌, reverse, reverse_aux, reverse-append, reverse-cons, reverse-reverse, append-nil, append_assoc}
 use lib.Dec.{ltb, eqb}
@@ -170,7 +170,7 @@ feed_high d h = ne_eqb d 10 (omega arith)
 
 pub start_last : (n : ℕ) (w : List ℕ) → 0 < n → eqb (get_or w (n - 1) 0) 10 ≡ line_start (out_of n w)
 unfolding line_start
-start_last n w h = last_test line_start (λ d. eqb d 10) (λ d o. and-true-right (eqb d 10)) feed_high n w h
+start_last n w h = last_test line_start (λ d. eqb d 10) (λ d o. and_true_right (eqb d 10)) feed_high n w h
 
 pub start_none : (n : ℕ) (w : List ℕ) → n ≡ 0 → true ≡ line_start (out_of n w)
 unfolding line_start
@@ -197,7 +197,7 @@ blank_other n w h e =
 pub blank_two : (n : ℕ) (w : List ℕ) → 2 ≤ n → get_or w (n - 1) 0 ≡ 10 → eqb (get_or w (n - 2) 0) 10 ≡ starts "\n\n" (out_of n w)
 blank_two n w h e =
     let i : n - 1 - 1 ≡ n - 2 = omega arith in
-    let t = last_test (starts "\n") (λ d. eqb d 10) (λ d o. and-true-right (eqb d 10)) feed_high (n - 1) w (omega arith) in
+    let t = last_test (starts "\n") (λ d. eqb d 10) (λ d o. and_true_right (eqb d 10)) feed_high (n - 1) w (omega arith) in
     rw (out_ascii n w (omega arith) (omega arith), e) (rw i at t)
 
 pub blank_few : (n : ℕ) (w : List ℕ) → n < 2 → starts "\n\n" (out_of n w) ≡ false

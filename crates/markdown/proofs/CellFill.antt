@@ -1,7 +1,7 @@
 -- The turns of the loop that stores the cells of a row behind the part of the buffer that it reads.
 -- Assumes nothing.
 use Prim.Native.Nat.{ℕ, suc, ◌+◌, ◌*◌, ◌-◌, ◌≤◌, ◌<◌}
-use mathlib.Core.Bool.{Bool, true, false, and-true as and-true-right}
+use mathlib.Core.Bool.{Bool, true, false, and-true as and_true_right}
 use mathlib.Core.List.{List, [], ◌∷◌, ◌++◌, append_assoc, append-nil}
 use mathlib.Core.Logic.{⊎_elim}
 use mathlib.Core.Path.{◌≡◌, refl, sym, ap, ◌∙◌, subst}
@@ -139,7 +139,7 @@ module _ (work₀ : List ℕ) (a b at : ℕ) where
 
       -- what stands at i, by its length
       starts_bar : starts "|" (between work i b) ≡ eqb (get_or work i 0) 124
-      starts_bar = rw left_cons (and-true-right (eqb (get_or work i 0) 124))
+      starts_bar = rw left_cons (and_true_right (eqb (get_or work i 0) 124))
 
       module _ (n : ℕ) (e : n ≡ bar_size (between work i b)) where
         is_three : starts " | " (between work i b) ≡ true → n ≡ 3

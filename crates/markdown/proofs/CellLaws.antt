@@ -1,7 +1,7 @@
 -- The laws of `row`: one pass does what the two replacements do, and the same of bytes as of characters.
 -- Assumes nothing.
 use Prim.Native.Nat.{ℕ, zero, suc, ◌≤◌, ◌<◌}
-use mathlib.Core.Bool.{Bool, true, false, and-true as and-true-right}
+use mathlib.Core.Bool.{Bool, true, false, and-true as and_true_right}
 use mathlib.Core.List.{List, [], ◌∷◌, ◌++◌}
 use mathlib.Core.Logic.{inl, ⊎_elim}
 use mathlib.Core.Path.{◌≡◌, refl, sym, ap, ◌∙◌}
@@ -40,7 +40,7 @@ replaced (suc n) (c ∷ s) = replaced n s
 replaced zero (c ∷ s) = go (starts " | " (c ∷ s)) (eqb c 124) refl (replaced 2 s) (replaced 0 s)
   where
     later : (x : List ℕ) (t : Bool) → eqb c 124 ≡ t → replace "|" dot 0 (c ∷ x) ≡ (if t then dot ++ replace "|" dot 0 x else c ∷ replace "|" dot 0 x)
-    later x t e = rw (and-true-right (eqb c 124), e)
+    later x t e = rw (and_true_right (eqb c 124), e)
 
     go : (t u : Bool) → eqb c 124 ≡ u → replace "|" dot 0 (replace " | " dot 2 s) ≡ cells dot 2 s → replace "|" dot 0 (replace " | " dot 0 s) ≡ cells dot 0 s
         → replace "|" dot 0 (if t then dot ++ replace " | " dot 2 s else c ∷ replace " | " dot 0 s)

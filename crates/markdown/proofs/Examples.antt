@@ -9,13 +9,13 @@ use Rattle.text.specs.Words.{str, index, take_while, drop_while, trim_end_matche
 use Rattle.text.specs.Chars.{is_space}
 use Rattle.text.specs.Utf8.{utf8, size}
 use Rattle.records.specs.Blocks.{Span, Block, Heading, Paragraph, Item}
-use Rattle.spans.specs.Spans.{link, code_step, star_step, link_step, image_step, step, walk, spans_at, spans, flush as flush-spans}
+use Rattle.spans.specs.Spans.{link, code_step, star_step, link_step, image_step, step, walk, spans_at, spans, flush as flush_spans}
 use Rattle.markdown.specs.Blocks.{is_rule, marker_at, list_marker, comment, cleaned, lines, replace, row, flush, heading, paragraph, continuation, read_text, read_line, read_lines, blocks}
-use Rattle.markdown.specs.Shown.{shown as Shown-of}
+use Rattle.markdown.specs.Shown.{shown as shown_of}
 
 -- opens what `blocks` stands on, so that it can be computed
 unfoldable line : List ℕ → List Span
-unfolding spans spans_at walk step code_step star_step link_step image_step link flush-spans
+unfolding spans spans_at walk step code_step star_step link_step image_step link flush_spans
 line text = spans text
 
 unfoldable words : List ℕ → List ℕ
@@ -106,7 +106,7 @@ shows =
     []
 
 abbrev shown_both : String → List (List ℕ)
-shown_both t = let bs = blocks (str t) in Shown-of false bs ∷ Shown-of true bs ∷ []
+shown_both t = let bs = blocks (str t) in shown_of false bs ∷ shown_of true bs ∷ []
 
 pub shows_hold : map (λ (r : String × String × String). shown_both r.0) shows ≡ map (λ (r : String × String × String). str r.1 ∷ str r.2 ∷ []) shows
 unfolding read

@@ -1,7 +1,7 @@
 -- The steps of each kind of line: a heading or another line that starts with `#`, an item, a row, any other text.
 -- Assumes nothing.
 use Prim.Native.Nat.{ℕ, ◌+◌, ◌*◌, ◌-◌, ◌≤◌, ◌<◌}
-use mathlib.Core.Bool.{Bool, true, false, cond, ◌&&◌, and-true as and-true-right}
+use mathlib.Core.Bool.{Bool, true, false, cond, ◌&&◌, and-true as and_true_right}
 use mathlib.Core.Option.{none, some}
 use mathlib.Core.List.{List, [], ◌∷◌, ◌++◌}
 use mathlib.Core.Logic.{⊎_elim}
@@ -281,7 +281,7 @@ module _ (md work : List ℕ) (s : State) (copied : Bool) (from to : ℕ) (g : G
             ∙ ap (λ (l : List ℕ). if is_empty q.paragraph && i then continuation (chars l) q else paragraph (chars l) q) t
 
         wraps : i ≡ true → (q : Reader) → after q ≡ wrapped (chars (text_of md work copied from to)) q
-        wraps e q = other q ∙ rw (e, and-true-right (is_empty q.paragraph))
+        wraps e q = other q ∙ rw (e, and_true_right (is_empty q.paragraph))
 
         joins : i ≡ false → (q : Reader) → after q ≡ paragraph (chars (text_of md work copied from to)) q
         joins e q = other q ∙ rw (e, and_false (is_empty q.paragraph) false refl)

@@ -54,7 +54,7 @@ module _ (marked : Bool) where
   Space gap = Shows marked (str " ") gap
 
   module _ (r : Reader) (s gap line : List ℕ) (h : Shows marked (held r) s)
-      (in-paragraph : is_empty r.paragraph ≡ false → Space gap) (in_Item : (b : Block) (bs : List Block) → r.blocks ≡ b ∷ bs → Space gap) where
+      (in_paragraph : is_empty r.paragraph ≡ false → Space gap) (in_item : (b : Block) (bs : List Block) → r.blocks ≡ b ∷ bs → Space gap) where
     abbrev Done : Reader → Type 0
     Done q = Shows marked (held q) (s ++ (gap ++ line))
 
@@ -103,7 +103,7 @@ module _ (marked : Bool) where
               append_assoc (back r.blocks) q (str " " ++ t)
               ∙ ap (λ (l : List ℕ). back r.blocks ++ l) (sym (append_assoc q (str " ") t) ∙ ap (λ (l : List ℕ). l ++ str " " ++ t) e) in
               subst (λ (l : List ℕ). Shows marked l (s ++ (gap ++ line))) split
-              (shows_append marked h (shows_append marked (in-paragraph (ap is_empty e)) line_shows))
+              (shows_append marked h (shows_append marked (in_paragraph (ap is_empty e)) line_shows))
 
       -- the item above with the spans of the line
       module _ (bs cs : List Block) where
@@ -125,7 +125,7 @@ module _ (marked : Bool) where
       continued_done : (bs cs : List Block) → r.blocks ≡ bs → continued (spans t) bs ≡ some cs → Done (reader cs [])
       continued_done [] cs f e = let z : ◌≡◌ {A = ℕ} 0 1 = cc in absurd (omega arith)
       continued_done (b ∷ bs) cs f e =
-          item_done bs cs b.kind b.spans (subst (λ (l : List Block). Shows marked (back l) s) f older) (in_Item b bs f) e
+          item_done bs cs b.kind b.spans (subst (λ (l : List Block). Shows marked (back l) s) f older) (in_item b bs f) e
 
       continuation_done : Done (continuation t r)
       unfolding continuation

@@ -1,7 +1,7 @@
 -- The laws of headings, list markers and the order of the tests on a line, on the line's bytes.
 -- Assumes nothing.
 use Prim.Native.Nat.{ℕ, suc, ◌+◌, ◌-◌, ◌/◌, ◌≤◌, ◌<◌, min}
-use mathlib.Core.Bool.{true, false, ◌&&◌, ◌||◌, and-true as and-true-right, Bool}
+use mathlib.Core.Bool.{true, false, ◌&&◌, ◌||◌, and-true as and_true_right, Bool}
 use mathlib.Core.Option.{none, some}
 use mathlib.Core.List.{List, [], ◌∷◌, ◌++◌}
 use mathlib.Core.Path.{◌≡◌, refl, sym, ap, ◌∙◌}
@@ -245,7 +245,7 @@ module _ (line : List ℕ) (a b : ℕ) (some : a < b) (bound : b ≤ length line
   part_some = rw part_cons
 
   pub part_starts : (x : ℕ) → x < 0x80 → starts_with (x ∷ []) (chars (between line a b)) ≡ eqb (get_or line a 0) x
-  part_starts x h = starts_chars (x ∷ []) (between line a b) (ascii_one x h) ∙ rw part_cons (and-true-right (eqb (get_or line a 0) x))
+  part_starts x h = starts_chars (x ∷ []) (between line a b) (ascii_one x h) ∙ rw part_cons (and_true_right (eqb (get_or line a 0) x))
 
 line_starts : (line : List ℕ) (x : ℕ) → 0 < length line → x < 0x80 → starts_with (x ∷ []) (chars line) ≡ eqb (get_or line 0 0) x
 line_starts line x f h = rw (part_from line 0) at (part_starts line 0 (length line) f (omega arith) x h)

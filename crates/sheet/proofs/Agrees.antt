@@ -19,7 +19,7 @@ use Rattle.sheet.specs.Tree.{Block}
 use Rattle.sheet.specs.Written.{written, blocks_of}
 use Rattle.sheet.specs.Sheet.{small, IsSheet}
 use Rattle.sheet.specs.Calls.{sheet_call, counts}
-use Rattle.sheet.proofs.Converts.{sheet_call as converts-call}
+use Rattle.sheet.proofs.Converts.{sheet_call as converts_call}
 use Rattle.sheet.proofs.TestCall.{sheet_iff}
 use Rattle.sheet.proofs.SheetReads.{sheet_reads}
 use Rattle.sheet.proofs.SheetScalars.{sheet_scalars}
@@ -46,7 +46,7 @@ module _ (page : List ℕ) (t : List Block) (sheet : IsSheet page t) where
   converted work result a b =
       let n = page_bytes in
       let d = (decode_iff page sheet.html).1 (sheet.scalars, sheet.encoded) in
-      converts-call page work result d sheet.grammar limits.0 limits.1 (omega arith) b
+      converts_call page work result d sheet.grammar limits.0 limits.1 (omega arith) b
 
   read : (work result : ℕ) → 6 * length (encode (written t)) ≤ work → length (encode_blocks (blocks_of t)) ≤ result
       → blocks_call (encode (written t)) work result ≡ wrote (encode_blocks (blocks_of t))

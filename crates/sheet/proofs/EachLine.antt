@@ -81,7 +81,7 @@ module _ (Q : List ℕ → Type 0) (tail : (c : ℕ) (s : List ℕ) → Q (c ∷
   block_kept s _ r (G.is_list {m = m} {its = its} h) q = list_kept 8 s m its r h q
 
   -- ---- and P follows of each line
-  module _ (P : List Run → Type 0) (of-line : (s : List ℕ) (l : List Run) (r : List ℕ) → Line s l r → Q s → P l) where
+  module _ (P : List Run → Type 0) (of_line : (s : List ℕ) (l : List Run) (r : List ℕ) → Line s l r → Q s → P l) where
     -- k lists may be opened within the d that are open
     abbrev ListsSay : (List ℕ → Mark → Items → List ℕ → Type 0) → ℕ → Type 0
     ListsSay L k = (s : List ℕ) (m : Mark) (its : Items) (r : List ℕ) → L s m its r → Q s → (d n : ℕ) → d + k ≤ 8 → Entries P (rows_from d m n its)
@@ -90,10 +90,10 @@ module _ (Q : List ℕ → Type 0) (tail : (c : ℕ) (s : List ℕ) → Q (c ∷
       item_rows : {s r : List ℕ} {it : Item} → IsItem L s it r → Q s → (d : ℕ) (m : Mark) (n : ℕ) (its : Items) → d + suc k ≤ 8
           → Entries P (rows_from d m (suc n) its) → Entries P (rows_from d m n (cons it its))
       unfolding rows_from
-      item_rows (is_alone {s} {r} {l} ln) q d m n its h e = one {d = d} (omega arith) (of-line s l (str "</li>" ++ r) ln (past (str "<li>") s q)) e
+      item_rows (is_alone {s} {r} {l} ln) q d m n its h e = one {d = d} (omega arith) (of_line s l (str "</li>" ++ r) ln (past (str "<li>") s q)) e
       item_rows (is_with {s} {s₁} {s₂} {s₃} {l = l} {m = mk} {its = sub} ln a i b) q d m n its h e =
           let q₁ = past (str "<li>") s q in
-          one {d = d} (omega arith) (of-line s l s₁ ln q₁)
+          one {d = d} (omega arith) (of_line s l s₁ ln q₁)
           (entries_append (say s₂ mk sub s₃ i (nl_kept a (line_kept s l s₁ ln q₁)) (suc d) 1 (omega arith)) e)
 
       all_rows : {s r : List ℕ} {xs : List Item} → Many (ThenNL (IsItem L)) s xs r → Q s → (d : ℕ) (m : Mark) (n : ℕ) → d + suc k ≤ 8
@@ -114,8 +114,8 @@ module _ (Q : List ℕ → Type 0) (tail : (c : ℕ) (s : List ℕ) → Q (c ∷
         a_list it its (all_rows (IsList k) k (lists_say k) (list_kept k) ms (nl_kept a (past (opens m) s q)) 0 m 1 (omega arith))
 
     block_lines : {s r : List ℕ} {b : Block} → IsBlock s b r → Q s → Lines P b
-    block_lines (is_heading {s} {r} {l} n lo hi ln) q = a_heading lo (of-line s l (closes_h n ++ r) ln (past (opens_h n) s q))
-    block_lines (is_para {s} {r} {l} ln) q = a_para (of-line s l (str "</p>" ++ r) ln (past (str "<p>") s q))
+    block_lines (is_heading {s} {r} {l} n lo hi ln) q = a_heading lo (of_line s l (closes_h n ++ r) ln (past (opens_h n) s q))
+    block_lines (is_para {s} {r} {l} ln) q = a_para (of_line s l (str "</p>" ++ r) ln (past (str "<p>") s q))
     block_lines {s} {r} (G.is_list {m = m} {its = its} h) q = list_block 8 s m its r h q (omega arith)
 
     blocks_lines : {s r : List ℕ} {bs : List Block} → Many (ThenNL IsBlock) s bs r → Q s → Each P bs

@@ -1,5 +1,5 @@
 -- Reading the lines of a written form gives the blocks of its tree.
--- Assumes flush-end.
+-- Assumes nothing.
 use Prim.Native.Nat.{ℕ, zero, suc, ◌≤◌, min}
 use native.Mathlib.Omega.{arith}
 use mathlib.Core.Path.{◌≡◌, refl, sym, ◌∙◌, ap}

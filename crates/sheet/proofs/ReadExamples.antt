@@ -13,7 +13,7 @@ use Rattle.text.specs.Decimal.{digits}
 use Rattle.html.specs.State.{special}
 use Rattle.spans.specs.Spans as S
 use Rattle.spans.specs.Spans.{link, code_step, star_step, link_step, image_step, step, walk, spans_at, spans}
-use Rattle.markdown.specs.Blocks.{is_rule, marker_at, list_marker, comment, cleaned, lines, replace, flush, heading as md-heading, paragraph, continuation, read_text, read_line, read_lines, blocks}
+use Rattle.markdown.specs.Blocks.{is_rule, marker_at, list_marker, comment, cleaned, lines, replace, flush, heading as md_heading, paragraph, continuation, read_text, read_line, read_lines, blocks}
 use Rattle.sheet.specs.Reading.{many}
 use Rattle.sheet.specs.Tree.{plain, strong, em, both, code, run, ul, ol, end, leaf, node, Block, heading, para, list}
 use Rattle.sheet.specs.Grammar.{shown, singles, first_is, last_is, fits, apart, first_letter, last_no_blank, neat}
@@ -52,5 +52,5 @@ pub by_theorem : blocks (written tree) ≡ blocks_of tree
 by_theorem = sheet_reads (page_sound page tree read) small
 
 pub by_computing : blocks markdown ≡ blocks_of tree
-unfolding index take_while drop_while trim_end_matches is_space utf8 size digits S.flush link code_step star_step link_step image_step step walk spans_at spans is_rule marker_at list_marker comment cleaned lines replace flush md-heading paragraph continuation read_text read_line read_lines blocks rows_from rows blocks_of
+unfolding index take_while drop_while trim_end_matches is_space utf8 size digits S.flush link code_step star_step link_step image_step step walk spans_at spans is_rule marker_at list_marker comment cleaned lines replace flush md_heading paragraph continuation read_text read_line read_lines blocks rows_from rows blocks_of
 by_computing = refl

@@ -5,7 +5,7 @@ use mathlib.Core.Path.{◌≡◌, refl}
 use mathlib.Core.List.{List, [], ◌∷◌, map}
 use Rattle.text.specs.Words.{str}
 use Rattle.text.specs.Chars.{is_scalar, is_space, is_control}
-use Rattle.text.specs.Utf8.{utf8, size, starts3, starts4, char_of, char as utf8-char, scan, chars, is_utf8, decode}
+use Rattle.text.specs.Utf8.{utf8, size, starts3, starts4, char_of, char as utf8_char, scan, chars, is_utf8, decode}
 use Rattle.text.specs.Decimal.{digits}
 use Rattle.html.specs.State.{special}
 use Rattle.sheet.specs.Reading.{many}
@@ -34,10 +34,10 @@ pages =
     ∷ []
 
 answers : map (λ (r : String × Tested). sheet_call (str r.0)) pages ≡ map (λ (r : String × Tested). r.1) pages
-unfolding pages sheet_call sheet small decode is_utf8 chars scan utf8-char char_of starts3 starts4 is_scalar is_space is_control utf8 size digits special many shown singles first_is last_is fits apart first_letter last_no_blank neat own char referred text kind one_run line item list_of read_list closed_by headed read_heading read_para block read_page rows_from rows escaped written_runs joined written
+unfolding pages sheet_call sheet small decode is_utf8 chars scan utf8_char char_of starts3 starts4 is_scalar is_space is_control utf8 size digits special many shown singles first_is last_is fits apart first_letter last_no_blank neat own char referred text kind one_run line item list_of read_list closed_by headed read_heading read_para block read_page rows_from rows escaped written_runs joined written
 answers = refl
 
 -- a byte that is no character
 refused : sheet_call (60 ∷ 255 ∷ []) ≡ no_utf8
-unfolding sheet_call decode is_utf8 chars scan utf8-char char_of starts3 starts4 is_scalar
+unfolding sheet_call decode is_utf8 chars scan utf8_char char_of starts3 starts4 is_scalar
 refused = refl

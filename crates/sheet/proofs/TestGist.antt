@@ -3,7 +3,7 @@
 use Prim.Native.Nat.{ℕ, ◌+◌, ◌≤◌}
 use native.Mathlib.Omega.{arith}
 use mathlib.Core.Path.{◌≡◌, refl, sym, ◌∙◌, ap}
-use mathlib.Core.Bool.{Bool, true, false, not, cond, ◌&&◌, and_assoc, and-true as and-true-right}
+use mathlib.Core.Bool.{Bool, true, false, not, cond, ◌&&◌, and_assoc, and-true as and_true_right}
 use mathlib.Core.List.{List, [], ◌∷◌, ◌++◌}
 use lib.Dec.{eqb}
 use lib.ListN.{length}
@@ -23,7 +23,7 @@ use Rattle.sheet.specs.Keeps.{first_of, last_of, gist, pushed, Scanned}
 use Rattle.sheet.specs.Reader.{char}
 use Rattle.sheet.specs.Says.{from}
 use mathlib.Core.Option.{none}
-use Rattle.sheet.proofs.TestText.{Text-to, text_none, text_next, text_ends, Glyph-is}
+use Rattle.sheet.proofs.TestText.{TextTo, text_none, text_next, text_ends, GlyphIs}
 use Rattle.sheet.proofs.TestCount.{counts, weight_append}
 
 -- ---- one character's written form
@@ -65,11 +65,11 @@ last_snoc (a ∷ b ∷ t) c = last_snoc (b ∷ t) c
 singles_snoc : (t : List ℕ) (c : ℕ) → singles (t ++ (c ∷ [])) ≡ singles t && not (non_empty t && (eqb (last_of t) 32 && eqb c 32))
 unfolding singles
 singles_snoc [] c = refl
-singles_snoc (a ∷ []) c = and-true-right _
+singles_snoc (a ∷ []) c = and_true_right _
 singles_snoc (a ∷ b ∷ t) c = ap (λ (x : Bool). not (eqb a 32 && eqb b 32) && x) (singles_snoc (b ∷ t) c) ∙ sym (and_assoc (not (eqb a 32 && eqb b 32)) (singles (b ∷ t)) _)
 
 none_snoc : (f : ℕ → Bool) (t : List ℕ) (c : ℕ) → none_of f (t ++ (c ∷ [])) ≡ none_of f t && not (f c)
-none_snoc f [] c = and-true-right (not (f c))
+none_snoc f [] c = and_true_right (not (f c))
 none_snoc f (a ∷ t) c = ap (λ (x : Bool). not (f a) && x) (none_snoc f t c) ∙ sym (and_assoc (not (f a)) (none_of f t) (not (f c)))
 
 gists : {w w' : Count} {a a' : Bool} {f f' l l' : ℕ} {s s' c c' : Bool} → w ≡ w' → a ≡ a' → f ≡ f' → l ≡ l' → s ≡ s' → c ≡ c'
@@ -82,18 +82,18 @@ gist_snoc t c =
     gists (ap weight (escaped_append t (c ∷ [])) ∙ weight_append (escaped t) (escaped (c ∷ []))) (some_snoc t c) (first_snoc t c) (last_snoc t c) (singles_snoc t c) (none_snoc special t c)
 
 -- ---- the loop over the characters of a text: what was read up to `pos`, and what is kept of it
-pub record Scan-to (page : List ℕ) (at pos : ℕ) (g : Gist) : Type 0 where
+pub record ScanTo (page : List ℕ) (at pos : ℕ) (g : Gist) : Type 0 where
   pub read : List ℕ
-  pub to : Text-to (from page at) read (from page pos)
+  pub to : TextTo (from page at) read (from page pos)
   pub kept : g ≡ gist read
   pub later : at ≤ pos
   pub within : at ≤ length page → pos ≤ length page
 
 module _ (page : List ℕ) (at : ℕ) where
-  pub scan_none : {g : Gist} → g ≡ gist [] → Scan-to page at at g
+  pub scan_none : {g : Gist} → g ≡ gist [] → ScanTo page at at g
   scan_none e = record { read = []; to = text_none (from page at); kept = e; later = omega arith; within = λ h. h }
 
-  pub scan_next : {pos c next : ℕ} {g h : Gist} → Scan-to page at pos g → Glyph-is page pos c next → h ≡ pushed g c → Scan-to page at next h
+  pub scan_next : {pos c next : ℕ} {g h : Gist} → ScanTo page at pos g → GlyphIs page pos c next → h ≡ pushed g c → ScanTo page at next h
   scan_next {pos} {c} {next} {g} {h} s l e =
       let p = s.later in
       let q = l.later in
@@ -105,7 +105,7 @@ module _ (page : List ℕ) (at : ℕ) where
         within = λ _. l.within;
       }
 
-  pub scan_ends : {pos : ℕ} {g : Gist} → Scan-to page at pos g → char (from page pos) ≡ none → Scanned page at (record { next = pos; gist = g })
+  pub scan_ends : {pos : ℕ} {g : Gist} → ScanTo page at pos g → char (from page pos) ≡ none → Scanned page at (record { next = pos; gist = g })
   scan_ends {pos} {g} s e =
       let t = text_ends s.to e in
       record {

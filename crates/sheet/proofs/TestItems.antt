@@ -25,7 +25,7 @@ use Rattle.sheet.specs.declared.list.Opening.{Opening}
 use Rattle.sheet.specs.declared.list.Opening.TheVariants as O
 use Rattle.sheet.proofs.TestTags.{Stands, is_tag}
 use Rattle.sheet.proofs.TestCount.{weight_append}
-use Rattle.sheet.proofs.TestMany.{every, many_every, Read-to, to_none, to_more, to_stop}
+use Rattle.sheet.proofs.TestMany.{every, many_every, ReadTo, to_none, to_more, to_stop}
 use Rattle.sheet.proofs.TestSays.{Got, answers}
 use Rattle.sheet.proofs.TestForms.{rows_snoc}
 
@@ -99,21 +99,21 @@ module _ (page : List ℕ) (at : ℕ) where
           record { is = f ∙ ap some h.2 ∙ ap (λ (b : Bool). some (mark_of b, from page (at + 4))) w; within = h.3 }
 
 -- ---- the loop over the items
-pub record Items-to (v d : ℕ) (m : Mark) (page : List ℕ) (start pos n : ℕ) (w : Count) : Type 0 where
+pub record ItemsTo (v d : ℕ) (m : Mark) (page : List ℕ) (start pos n : ℕ) (w : Count) : Type 0 where
   pub read : List Item
-  pub to : Read-to (then_nl (item (read_list v))) (from page start) read (from page pos)
+  pub to : ReadTo (then_nl (item (read_list v))) (from page start) read (from page pos)
   pub kept : w ≡ weight (led_rows (rows_from d m 1 (items read)))
   pub many : n ≡ length read
   pub later : start + n ≤ pos
   pub within : pos ≤ length page
 
 module _ (v d : ℕ) (m : Mark) (page : List ℕ) (start : ℕ) where
-  pub items_none : {w : Count} → w ≡ alike 0 → start ≤ length page → Items-to v d m page start start 0 w
+  pub items_none : {w : Count} → w ≡ alike 0 → start ≤ length page → ItemsTo v d m page start start 0 w
   unfolding weight size led_rows rows_from
   items_none {w} e h = record { read = []; to = to_none (then_nl (item (read_list v))) (from page start); kept = e; many = refl; later = omega arith; within = h }
 
-  pub items_next : {pos n : ℕ} {w : Count} → Items-to v d m page start pos n w → {p next : ℕ} {a b : Count} {pos' : ℕ} → p ≡ place m (n + 1)
-      → Got (item_form d p) page pos (item (read_list v) (from page pos)) next a → Skipped page next pos' → b ≡ added w a → Items-to v d m page start pos' (n + 1) b
+  pub items_next : {pos n : ℕ} {w : Count} → ItemsTo v d m page start pos n w → {p next : ℕ} {a b : Count} {pos' : ℕ} → p ≡ place m (n + 1)
+      → Got (item_form d p) page pos (item (read_list v) (from page pos)) next a → Skipped page next pos' → b ≡ added w a → ItemsTo v d m page start pos' (n + 1) b
   items_next {pos} {n} {w} s {p} {next} {a} {b} {pos'} e g k f =
       let x = g.what in
       let xs = s.read in
@@ -133,7 +133,7 @@ module _ (v d : ℕ) (m : Mark) (page : List ℕ) (start : ℕ) where
         within = k.within g.within;
       }
 
-  pub items_end : {pos n : ℕ} {w : Count} (s : Items-to v d m page start pos n w) → item (read_list v) (from page pos) ≡ none → every (then_nl (item (read_list v))) (from page start) ≡ (s.read, from page pos)
+  pub items_end : {pos n : ℕ} {w : Count} (s : ItemsTo v d m page start pos n w) → item (read_list v) (from page pos) ≡ none → every (then_nl (item (read_list v))) (from page start) ≡ (s.read, from page pos)
   items_end s e = to_stop (then_nl (item (read_list v))) s.to (rw e)
 
 -- ---- a list
@@ -190,7 +190,7 @@ module _ (d : ℕ) (s : List ℕ) (h : 1 ≤ d) (m : Mark) (s₁ : List ℕ) (e 
       go [] n = absurd (n refl)
       go (x ∷ xs) n = rw q
 
-module _ (page : List ℕ) (at d : ℕ) (h : 1 ≤ d) (b : Bool) (o : Began page at b) (start : ℕ) (k : Skipped page (at + 4) start) {v pos n : ℕ} {w : Count} (s : Items-to (d - 1) v (mark_of b) page start pos n w) (e : item (read_list (d - 1)) (from page pos) ≡ none) where
+module _ (page : List ℕ) (at d : ℕ) (h : 1 ≤ d) (b : Bool) (o : Began page at b) (start : ℕ) (k : Skipped page (at + 4) start) {v pos n : ℕ} {w : Count} (s : ItemsTo (d - 1) v (mark_of b) page start pos n w) (e : item (read_list (d - 1)) (from page pos) ≡ none) where
   all_items : every (then_nl (item (read_list (d - 1)))) (from page start) ≡ (s.read, from page pos)
   all_items = items_end (d - 1) v (mark_of b) page start s e
 

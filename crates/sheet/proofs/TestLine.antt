@@ -3,7 +3,7 @@
 use Prim.Native.Nat.{ℕ, ◌*◌, ◌≤◌, ◌<◌}
 use native.Mathlib.Omega.{arith}
 use mathlib.Core.Path.{◌≡◌, refl, sym, ◌∙◌, ap}
-use mathlib.Core.Bool.{Bool, true, false, not, cond, ◌&&◌, and_assoc, and-true as and-true-right}
+use mathlib.Core.Bool.{Bool, true, false, not, cond, ◌&&◌, and_assoc, and-true as and_true_right}
 use mathlib.Core.Option.{none}
 use mathlib.Core.List.{List, [], ◌∷◌, ◌++◌, append-nil, append_assoc}
 use lib.Dec.{eqb}
@@ -29,9 +29,9 @@ use Rattle.sheet.specs.declared.line.Runs.{Runs}
 use Rattle.sheet.proofs.AllChars.{all_sign}
 use Rattle.sheet.proofs.TestCount.{ascii_marks, counts, size_ascii, weight_append}
 use Rattle.sheet.proofs.TestGist.{some_snoc}
-use Rattle.sheet.proofs.TestMany.{every, Read-to, to_none, to_more, to_stop}
+use Rattle.sheet.proofs.TestMany.{every, ReadTo, to_none, to_more, to_stop}
 use Rattle.sheet.proofs.TestSays.{answers, refuses}
-use Rattle.sheet.proofs.TestRuns.{kind_coded, last_blank, first_letter_of, Run-is}
+use Rattle.sheet.proofs.TestRuns.{kind_coded, last_blank, first_letter_of, RunIs}
 use Rattle.sheet.proofs.Shrinks.{run_shrinks}
 
 -- ---- no run
@@ -68,7 +68,7 @@ last_kind_snoc (run l u ∷ r ∷ rs) k t = last_kind_snoc (r ∷ rs) k t
 apart_snoc : (rs : List Run) (k : T.Kind) (t : List ℕ) → apart (rs ++ (run k t ∷ [])) ≡ apart rs && not (touch (last_kind rs) k)
 unfolding apart
 apart_snoc [] k t = refl
-apart_snoc (run l u ∷ []) k t = and-true-right (not (touch l k))
+apart_snoc (run l u ∷ []) k t = and_true_right (not (touch l k))
 apart_snoc (run l u ∷ run m v ∷ rs) k t = ap (λ (x : Bool). not (touch l m) && x) (apart_snoc (run m v ∷ rs) k t) ∙ sym (and_assoc (not (touch l m)) (apart (run m v ∷ rs)) _)
 
 letter_snoc : (rs : List Run) (k : T.Kind) (t : List ℕ) → first_letter (rs ++ (run k t ∷ [])) ≡ cond (non_empty rs) (first_letter rs) (is_letter (first_of t))
@@ -112,18 +112,18 @@ neat_some [] e = e
 neat_some (r ∷ rs) e = refl
 
 -- ---- the loop over the runs of a line
-pub record Line-to (page : List ℕ) (at pos : ℕ) (x : Runs) : Type 0 where
+pub record LineTo (page : List ℕ) (at pos : ℕ) (x : Runs) : Type 0 where
   pub read : List Run
-  pub to : Read-to one_run (from page at) read (from page pos)
+  pub to : ReadTo one_run (from page at) read (from page pos)
   pub kept : x ≡ runs_of read
   pub moved : non_empty read ≡ true → (at < pos) × (pos ≤ length page)
   pub later : at ≤ pos
 
 module _ (page : List ℕ) (at : ℕ) where
-  pub line_none : {x : Runs} → x ≡ runs_of [] → Line-to page at at x
+  pub line_none : {x : Runs} → x ≡ runs_of [] → LineTo page at at x
   line_none e = record { read = []; to = to_none one_run (from page at); kept = e; moved = λ h. let z : ◌≡◌ {A = ℕ} 0 1 = cc in absurd (omega arith); later = omega arith }
 
-  pub line_next : {pos next : ℕ} {k : Kind} {g : Gist} {x y : Runs} → Line-to page at pos x → Run-is page pos next k g → y ≡ joined_by x k g → Line-to page at next y
+  pub line_next : {pos next : ℕ} {k : Kind} {g : Gist} {x y : Runs} → LineTo page at pos x → RunIs page pos next k g → y ≡ joined_by x k g → LineTo page at next y
   line_next {pos} {next} {k} {g} {x} {y} s r e =
       let p = s.later in
       let q = r.later in
@@ -135,7 +135,7 @@ module _ (page : List ℕ) (at : ℕ) where
         later = omega arith;
       }
 
-  module _ {pos : ℕ} {x : Runs} (s : Line-to page at pos x) (e : one_run (from page pos) ≡ none) where
+  module _ {pos : ℕ} {x : Runs} (s : LineTo page at pos x) (e : one_run (from page pos) ≡ none) where
     all_read : every one_run (from page at) ≡ (s.read, from page pos)
     all_read = to_stop one_run s.to e
 

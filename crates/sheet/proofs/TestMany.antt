@@ -51,13 +51,13 @@ module _ {A : Type 0} where
       ∙ ap (front x) (many_every p h (length s) m (omega arith))
 
   -- xs were read of s up to m
-  pub record Read-to (p : List ℕ → Answer A) (s : List ℕ) (xs : List A) (m : List ℕ) : Type 0 where
+  pub record ReadTo (p : List ℕ → Answer A) (s : List ℕ) (xs : List A) (m : List ℕ) : Type 0 where
     pub so_far : every p s ≡ (xs ++ (every p m).0, (every p m).1)
 
-  pub to_none : (p : List ℕ → Answer A) (s : List ℕ) → Read-to p s [] s
+  pub to_none : (p : List ℕ → Answer A) (s : List ℕ) → ReadTo p s [] s
   to_none p s = record { so_far = refl }
 
-  pub to_more : (p : List ℕ → Answer A) → Shrinks p → {s m r : List ℕ} {xs : List A} {x : A} → Read-to p s xs m → p m ≡ some (x, r) → Read-to p s (xs ++ (x ∷ [])) r
+  pub to_more : (p : List ℕ → Answer A) → Shrinks p → {s m r : List ℕ} {xs : List A} {x : A} → ReadTo p s xs m → p m ≡ some (x, r) → ReadTo p s (xs ++ (x ∷ [])) r
   to_more p h {s} {m} {r} {xs} {x} t e =
       record {
         so_far =
@@ -66,7 +66,7 @@ module _ {A : Type 0} where
             ∙ ap (λ (l : List A). (l, (every p r).1)) (sym (append_snoc xs x (every p r).0));
       }
 
-  pub to_stop : (p : List ℕ → Answer A) {s m : List ℕ} {xs : List A} → Read-to p s xs m → p m ≡ none → every p s ≡ (xs, m)
+  pub to_stop : (p : List ℕ → Answer A) {s m : List ℕ} {xs : List A} → ReadTo p s xs m → p m ≡ none → every p s ≡ (xs, m)
   to_stop p {s} {m} {xs} t e =
       t.so_far
       ∙ ap (λ (y : List A × List ℕ). (xs ++ y.0, y.1)) (every_stop p m e)

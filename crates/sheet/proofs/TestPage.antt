@@ -26,7 +26,7 @@ use Rattle.sheet.specs.Sheet.{small}
 use Rattle.sheet.specs.declared.count.Count.{Count}
 use Rattle.sheet.specs.declared.Verdict.TheVariants.{Yes, No}
 use Rattle.sheet.proofs.TestCount.{weight_append, size_ascii}
-use Rattle.sheet.proofs.TestMany.{every, many_every, Read-to, to_none, to_more, to_stop}
+use Rattle.sheet.proofs.TestMany.{every, many_every, ReadTo, to_none, to_more, to_stop}
 use Rattle.sheet.proofs.TestSays.{Got}
 use Rattle.sheet.proofs.Shrinks.{nl_shrinks, blocks_shrink}
 
@@ -54,18 +54,18 @@ led_size (b ∷ bs) =
     (omega (arith, ap size e, size_append (str "\n\n") (written (b ∷ bs))), omega (arith, ap length e))
 
 -- ---- the loop over the blocks
-pub record Blocks-to (page : List ℕ) (start pos : ℕ) (w : Count) : Type 0 where
+pub record BlocksTo (page : List ℕ) (start pos : ℕ) (w : Count) : Type 0 where
   pub read : List Block
-  pub to : Read-to (then_nl block) (from page start) read (from page pos)
+  pub to : ReadTo (then_nl block) (from page start) read (from page pos)
   pub kept : w ≡ weight (led read)
   pub within : pos ≤ length page
 
 module _ (page : List ℕ) (start : ℕ) where
-  pub blocks_none : {w : Count} → w ≡ alike 0 → start ≤ length page → Blocks-to page start start w
+  pub blocks_none : {w : Count} → w ≡ alike 0 → start ≤ length page → BlocksTo page start start w
   unfolding weight size led
   blocks_none e h = record { read = []; to = to_none (then_nl block) (from page start); kept = e; within = h }
 
-  pub blocks_next : {pos next : ℕ} {w a b : Count} {pos' : ℕ} → Blocks-to page start pos w → Got block_form page pos (block (from page pos)) next a → Skipped page next pos' → b ≡ added w a → Blocks-to page start pos' b
+  pub blocks_next : {pos next : ℕ} {w a b : Count} {pos' : ℕ} → BlocksTo page start pos w → Got block_form page pos (block (from page pos)) next a → Skipped page next pos' → b ≡ added w a → BlocksTo page start pos' b
   blocks_next {pos} {next} {w} {a} {b} {pos'} s g k f =
       let x = g.what in
       let xs = s.read in
@@ -142,7 +142,7 @@ pub call_0 : (page : List ℕ) → is_utf8 page ≡ false → no_utf8 ≡ sheet_
 unfolding sheet_call
 call_0 page h = sym (rw (decode_false page h))
 
-module _ (page : List ℕ) (u : is_utf8 page ≡ true) (start : ℕ) (k : Skipped page 0 start) {pos : ℕ} {w : Count} (b : Blocks-to page start pos w) (e : block (from page pos) ≡ none) where
+module _ (page : List ℕ) (u : is_utf8 page ≡ true) (start : ℕ) (k : Skipped page 0 start) {pos : ℕ} {w : Count} (b : BlocksTo page start pos w) (e : block (from page pos) ≡ none) where
   page_is : read_page (from page 0) ≡ at_end b.read (from page pos)
   unfolding read_page
   page_is =

@@ -154,7 +154,7 @@ module _ (page : List ℕ) (at : ℕ) where
             ran (one_run (from page at)) w (coded_kind l) z.what (⊎_elim (λ v. ltb-true at n v) (λ v. let u = ltb-false at n v in absurd (d (omega arith))) (decide (ltb at n))) run_bound
 
 -- ---- from an answer of the code to the reader's
-pub record Run-is (page : List ℕ) (at next : ℕ) (l : Kind) (g : Gist) : Type 0 where
+pub record RunIs (page : List ℕ) (at next : ℕ) (l : Kind) (g : Gist) : Type 0 where
   pub kind : T.Kind
   pub text : List ℕ
   pub is : one_run (from page at) ≡ some (run kind text, from page next)
@@ -171,10 +171,10 @@ module _ (page : List ℕ) (at : ℕ) where
   pub run_no : {r : OneRun} → Ran page at (one_run (from page at)) r → r ≡ R.No → one_run (from page at) ≡ none
   run_no h e = no_run (one_run (from page at)) h e
 
-  pub run_at : {r : OneRun} {n : ℕ} {l : Kind} {g : Gist} → Ran page at (one_run (from page at)) r → r ≡ R.At n l g → Run-is page at n l g
+  pub run_at : {r : OneRun} {n : ℕ} {l : Kind} {g : Gist} → Ran page at (one_run (from page at)) r → r ≡ R.At n l g → RunIs page at n l g
   run_at {r} {n} {l} {g} h e = go (one_run (from page at)) refl h
     where
-      go : (o : Answer Run) → one_run (from page at) ≡ o → Ran page at o r → Run-is page at n l g
+      go : (o : Answer Run) → one_run (from page at) ≡ o → Ran page at o r → RunIs page at n l g
       go none f h = let z : ◌≡◌ {A = ℕ} 0 1 = cc in absurd (omega arith)
       go (some (run k t, m)) f h =
           let q = h.1 in

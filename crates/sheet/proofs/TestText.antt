@@ -139,13 +139,13 @@ unfolding text
 text_stop s e = rw (every_stop char s e)
 
 -- the text t was read of s up to m
-pub record Text-to (s t m : List ℕ) : Type 0 where
+pub record TextTo (s t m : List ℕ) : Type 0 where
   pub so_far : text s ≡ (t ++ (text m).0, (text m).1)
 
-pub text_none : (s : List ℕ) → Text-to s [] s
+pub text_none : (s : List ℕ) → TextTo s [] s
 text_none s = record { so_far = refl }
 
-pub text_next : {s t m r : List ℕ} (c : ℕ) → Text-to s t m → char m ≡ some (c ∷ [], r) → Text-to s (t ++ (c ∷ [])) r
+pub text_next : {s t m r : List ℕ} (c : ℕ) → TextTo s t m → char m ≡ some (c ∷ [], r) → TextTo s (t ++ (c ∷ [])) r
 text_next {s} {t} {m} {r} c h e =
     record {
       so_far =
@@ -154,14 +154,14 @@ text_next {s} {t} {m} {r} c h e =
           ∙ ap (λ (l : List ℕ). (l, (text r).1)) (sym (append_assoc t (c ∷ []) (text r).0));
     }
 
-pub text_ends : {s t m : List ℕ} → Text-to s t m → char m ≡ none → text s ≡ (t, m)
+pub text_ends : {s t m : List ℕ} → TextTo s t m → char m ≡ none → text s ≡ (t, m)
 text_ends {s} {t} {m} h e =
     h.so_far
     ∙ ap (λ (y : List ℕ × List ℕ). (t ++ y.0, y.1)) (text_stop m e)
     ∙ ap (λ (l : List ℕ). (l, m)) (append-nil t)
 
 -- ---- from an answer of the code to the reader's
-pub record Glyph-is (page : List ℕ) (at c next : ℕ) : Type 0 where
+pub record GlyphIs (page : List ℕ) (at c next : ℕ) : Type 0 where
   pub is : char (from page at) ≡ some (c ∷ [], from page next)
   pub later : at < next
   pub within : next ≤ length page
@@ -174,10 +174,10 @@ module _ (page : List ℕ) (at : ℕ) where
   pub glyph_no : {r : Glyph} → Spelt page at (char (from page at)) r → r ≡ G.No → char (from page at) ≡ none
   glyph_no h e = no_glyph (char (from page at)) h e
 
-  pub glyph_at : {r : Glyph} {c n : ℕ} → Spelt page at (char (from page at)) r → r ≡ G.At c n → Glyph-is page at c n
+  pub glyph_at : {r : Glyph} {c n : ℕ} → Spelt page at (char (from page at)) r → r ≡ G.At c n → GlyphIs page at c n
   glyph_at {r} {c} {n} h e = go (char (from page at)) refl h
     where
-      go : (o : Answer (List ℕ)) → char (from page at) ≡ o → Spelt page at o r → Glyph-is page at c n
+      go : (o : Answer (List ℕ)) → char (from page at) ≡ o → Spelt page at o r → GlyphIs page at c n
       go none f h = let z : ◌≡◌ {A = ℕ} 0 1 = cc in absurd (omega arith)
       go (some x) f h =
           let q = h.2 in

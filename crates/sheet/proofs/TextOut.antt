@@ -2,7 +2,7 @@
 -- Assumes nothing.
 use Prim.Native.Nat.{ℕ}
 use mathlib.Core.Path.{◌≡◌, refl, sym, ◌∙◌, ap, subst}
-use mathlib.Core.Bool.{Bool, true, false, not, ◌&&◌, cond, and-false, or-false, and-true as and-true-right}
+use mathlib.Core.Bool.{Bool, true, false, not, ◌&&◌, cond, and-false, or-false, and-true as and_true_right}
 use mathlib.Core.List.{List, [], ◌∷◌, ◌++◌, reverse_aux, tail, reverse_aux-append}
 use borrow.Author.Tests.{not-true, eqb-true}
 use lib.Dec.{eqb}
@@ -92,7 +92,7 @@ module _ (l : List ℕ) where
 
   put_inline : (f : Bool) (x : ℕ) (v : List ℕ) → inline v ≡ true → (f && ends_with_digit v) ≡ false → put f x (st l v false) ≡ st l (reverse_aux (shielded x) v) false
   unfolding put escape opens
-  put_inline f x v i d = simp (line_start_is v, i, d, or-false, and-true-right)
+  put_inline f x v i d = simp (line_start_is v, i, d, or-false, and_true_right)
 
   pushed : (x : ℕ) (v : List ℕ) → eqb x 32 ≡ false → begins 32 (reverse_aux (shielded x) v) ≡ false
   unfolding begins

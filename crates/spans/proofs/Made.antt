@@ -200,11 +200,11 @@ pub tick_made : (B I : Bool) (w : State) (out text : List ℕ) (len : w.len ≡ 
     → (f r : State) (out'' : List ℕ) → f ≡ flush_of w → r ≡ code_of f (e + 1) B I (take (e - (w.i + 1)) (drop (w.i + 1) line))
     → out'' ≡ sets out' f.at (record_of B I (code_span f (take (e - (w.i + 1)) (drop (w.i + 1) line))))
     → Made B I w out text (turn_at line w text) r out''
-tick_made B I w out text len out' d line e tick-here there f r out'' g h u =
+tick_made B I w out text len out' d line e tick_here there f r out'' g h u =
     let k : ℕ = e - (w.i + 1) in
     let more : k ≡ there.more = omega (arith, there.place) in
     let next : e + 1 ≡ w.i + 1 + (k + 1) = omega (arith, there.place) in
-    made_as (tick_some line w text k tick-here (there.found_is ∙ ap some (sym more))) refl
+    made_as (tick_some line w text k tick_here (there.found_is ∙ ap some (sym more))) refl
     (code_made B I w out text len out' d f r k (take k (drop (w.i + 1) line)) out'' g
     (h ∙ ap (λ (n : ℕ). code_of f n B I (take k (drop (w.i + 1) line))) next) u)
 

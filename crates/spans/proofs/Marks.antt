@@ -3,7 +3,7 @@
 use mathlib.Core.Path.{◌≡◌, refl, sym, ap, ◌∙◌, subst}
 use Prim.Native.Nat.{ℕ, ◌+◌, ◌≤◌, ◌<◌}
 use native.Mathlib.Numerals.{add-one}
-use mathlib.Core.Bool.{Bool, true, false, not, ◌||◌, and-true as and-true-right}
+use mathlib.Core.Bool.{Bool, true, false, not, ◌||◌, and-true as and_true_right}
 use mathlib.Core.Logic.{⊎_elim}
 use native.Mathlib.Omega.{arith}
 use mathlib.Core.Option.{none, some}
@@ -24,7 +24,7 @@ use Rattle.spans.specs.declared.State.{State}
 pub starts_byte : (line : List ℕ) (j b : ℕ) → 0 < b → starts_with (b ∷ []) (drop j line) ≡ eqb (get_or line j 0) b
 starts_byte line j b h =
     ⊎_elim
-    (λ l. rw (drop_next line j (ltb-true j (length line) l)) (and-true-right (eqb (get_or line j 0) b)))
+    (λ l. rw (drop_next line j (ltb-true j (length line) l)) (and_true_right (eqb (get_or line j 0) b)))
     (λ l. let m = ltb-false j (length line) l in rw (drop_of_length-le line m, get_or-eq_default line 0 m, ne_eqb 0 b (omega arith)))
     (decide (ltb j (length line)))
 

@@ -72,13 +72,13 @@ pub record Good (f : ℕ → ℕ) (w : Walk) (c : ℕ) (s : List ℕ) (t : Turn)
   pub within : t.more ≤ length s
   pub fits : Fits f t.spans (weigh f t.walk.text) (weigh f w.text + (f c + weigh f (take t.more s)))
 
-module _ (f : ℕ → ℕ) (some-weight : (c : ℕ) → 1 ≤ f c) (w : Walk) where
+module _ (f : ℕ → ℕ) (some_weight : (c : ℕ) → 1 ≤ f c) (w : Walk) where
   flush_fits : Fits f (flush w) 0 (weigh f w.text)
   flush_fits =
       flushed (λ ss. Fits f ss 0 (weigh f w.text)) w
       (λ e. record { small = omega arith; fit = omega arith })
       (λ c t e.
-      let h = some-weight c in
+      let h = some_weight c in
       let k = weigh_reverse f w.text in
       let m : weigh f w.text ≡ f c + weigh f t = ap (weigh f) e in
       record { small = omega arith; fit = omega arith })
@@ -99,7 +99,7 @@ module _ (f : ℕ → ℕ) (some-weight : (c : ℕ) → 1 ≤ f c) (w : Walk) wh
         let a = length-append (flush w) (x ∷ []) in
         let b = texts_append f (flush w) (x ∷ []) in
         let m = weigh_more f n (n + 1) s (omega arith) in
-        let p = some-weight c in
+        let p = some_weight c in
         record { within = omega arith; fits = record { small = omega (arith, k.small); fit = omega (arith, k.fit) } }
 
     linked_good : (ls : List Span) (n : ℕ) → n ≤ length s → Fits f ls 0 (weigh f (take n s)) → Good f w c s (linked w ls n)
@@ -169,10 +169,10 @@ module _ (f : ℕ → ℕ) (some-weight : (c : ℕ) → 1 ≤ f c) (w : Walk) wh
           (λ _. on IsGood (is "[" c) (λ _. linked_is)
           (λ _. on IsGood (is "!" c && starts "[" s) (λ _. image_is) (λ _. kept_step)))))
 
-module _ (f : ℕ → ℕ) (some-weight : (c : ℕ) → 1 ≤ f c) where
+module _ (f : ℕ → ℕ) (some_weight : (c : ℕ) → 1 ≤ f c) where
   at_end : (w : Walk) → Fits f (walk spans w 0 []) 0 (weigh f w.text + 0)
   at_end w =
-      let k = flush_fits f some-weight w in
+      let k = flush_fits f some_weight w in
       rw (walk_end spans w) (record { small = omega (arith, k.small); fit = omega (arith, k.fit) })
 
   walk_fits : (n : ℕ) (s : List ℕ) → length s ≤ n → (w : Walk) → Fits f (walk spans w 0 s) 0 (weigh f w.text + weigh f s)
@@ -182,7 +182,7 @@ module _ (f : ℕ → ℕ) (some-weight : (c : ℕ) → 1 ≤ f c) where
   walk_fits (suc n) (c ∷ s) h w =
       let t : Turn = turned spans w s (step w c s) in
       let good : Good f w c s t =
-      turn_good f some-weight w c s spans (λ l k. rw (spans_eq l) (rw (zero-add (weigh f l)) at (walk_fits n l (omega arith) (at false false [])))) in
+      turn_good f some_weight w c s spans (λ l k. rw (spans_eq l) (rw (zero-add (weigh f l)) at (walk_fits n l (omega arith) (at false false [])))) in
       let rest : List Span = walk spans t.walk 0 (drop t.more s) in
       let later = walk_fits n (drop t.more s) (omega (arith, shorter_drop t.more s)) t.walk in
       let a = length-append t.spans rest in
@@ -195,4 +195,4 @@ module _ (f : ℕ → ℕ) (some-weight : (c : ℕ) → 1 ≤ f c) where
   spans_fits line = rw (spans_eq line) (rw (zero-add (weigh f line)) at (walk_fits (length line) line (omega arith) (at false false [])))
 
   pub turn_fits : (w : Walk) (c : ℕ) (s : List ℕ) → Good f w c s (turned spans w s (step w c s))
-  turn_fits w c s = turn_good f some-weight w c s spans (λ l k. spans_fits l)
+  turn_fits w c s = turn_good f some_weight w c s spans (λ l k. spans_fits l)

@@ -1,7 +1,7 @@
 -- The laws of `specs/Cut.antt`.
 -- Assumes nothing.
 use Prim.Native.Nat.{ℕ, zero, suc, ◌+◌, ◌-◌, ◌≤◌, ◌<◌}
-use mathlib.Core.Bool.{Bool, true, false, ◌&&◌, true≢false, and-true as and-true-right}
+use mathlib.Core.Bool.{Bool, true, false, ◌&&◌, true≢false, and-true as and_true_right}
 use mathlib.Core.List.{List, [], ◌∷◌, ◌++◌, cons-ne-nil}
 use mathlib.Core.Logic.{⊎_elim}
 use mathlib.Core.Path.{◌≡◌, refl, sym, ap, ◌∙◌}
@@ -132,7 +132,7 @@ module _ (x bs : List ℕ) (w : Whole x bs) (n : ℕ) where
       ⊎_elim
       (λ g.
       let h = leb-true k n g in
-      rw (g, in_first k a h (omega arith), lt-ltb n (length x) l) (and-true-right (eqb n k)))
+      rw (g, in_first k a h (omega arith), lt-ltb n (length x) l) (and_true_right (eqb n k)))
       (λ g. let h = leb-false k n g in rw (g, ne_eqb n k (omega arith)))
       (decide (leb k n))
 

@@ -1,7 +1,7 @@
 -- The laws of the run of elements that a list starts with: one turn of a loop that passes over it, element by element or by blocks.
 -- Assumes nothing.
 use Prim.Native.Nat.{ℕ, zero, suc, ◌+◌, ◌≤◌, ◌<◌}
-use mathlib.Core.Bool.{Bool, true, false, cond, ◌&&◌, and_assoc, and-true as and-true-right}
+use mathlib.Core.Bool.{Bool, true, false, cond, ◌&&◌, and_assoc, and-true as and_true_right}
 use mathlib.Core.List.{List, [], ◌∷◌, ◌++◌}
 use mathlib.Core.Path.{◌≡◌, refl, sym, ap, ◌∙◌}
 use native.Mathlib.Numerals.{add-one}
@@ -67,7 +67,7 @@ module _ (p : ℕ → Bool) where
   -- one element more
   all_next : (xs : List ℕ) (k : ℕ) → k < length xs → all p (take (k + 1) xs) ≡ all p (take k xs) && p (get_or xs k 0)
   all_next xs k h =
-      rw (add-one k, take-suc xs k 0 h, all_append (take k xs) (get_or xs k 0 ∷ []), and-true-right (p (get_or xs k 0)))
+      rw (add-one k, take-suc xs k 0 h, all_append (take k xs) (get_or xs k 0 ∷ []), and_true_right (p (get_or xs k 0)))
 
   -- the next byte of a block that is tested byte by byte
   pub block_next : (s : List ℕ) (i k : ℕ) (t : Bool) → i + k < length s → t ≡ all p (take k (drop i s)) → t && p (get_or s (i + k) 0) ≡ all p (take (k + 1) (drop i s))

@@ -1,7 +1,7 @@
 -- The laws of a search for a text, place by place.
 -- Assumes nothing.
 use Prim.Native.Nat.{ℕ, suc, ◌+◌, ◌≤◌, ◌<◌}
-use mathlib.Core.Bool.{Bool, true, false, not, ◌&&◌, ◌||◌, and_assoc, and-true as and-true-right}
+use mathlib.Core.Bool.{Bool, true, false, not, ◌&&◌, ◌||◌, and_assoc, and-true as and_true_right}
 use mathlib.Core.Option.{Option, none, some}
 use mathlib.Core.List.{List, [], ◌∷◌}
 use mathlib.Core.Path.{◌≡◌, refl, sym, ap, ◌∙◌, subst}
@@ -73,7 +73,7 @@ module _ (s : List ℕ) (a b c j : ℕ) (l : j + 3 ≤ length s) where
   pub three_at : starts_with (a ∷ b ∷ c ∷ []) (drop j s) ≡ X && Y && Z
   three_at =
       let q : j + 1 + 1 ≡ j + 2 = omega arith in
-      rw (starts_at a (b ∷ c ∷ []) s j (omega arith), starts_at b (c ∷ []) s (j + 1) (omega arith), q, starts_at c [] s (j + 2) (omega arith), and-true-right Z)
+      rw (starts_at a (b ∷ c ∷ []) s j (omega arith), starts_at b (c ∷ []) s (j + 1) (omega arith), q, starts_at c [] s (j + 2) (omega arith), and_true_right Z)
       (sym (and_assoc X Y Z))
 
   pub three_other : not X || not Y || not Z ≡ true → starts_with (a ∷ b ∷ c ∷ []) (drop j s) ≡ false

@@ -20,7 +20,7 @@ within : (s title : List ℕ) → ((i : ℕ) → Fits w8 (get_or s i 0)) → {r 
 within s title b = range_within s title (bytes_are s b)
 
 pub slice_bounds-result-count : goal.slice_bounds-result-count
-slice_bounds-result-count c = (within c.args.records.now c.args.title.now c.type_inv.records c.section_range-range.ensures).order
+slice_bounds-result-count c = let w = within c.args.records.now c.args.title.now c.type_inv.records c.section_range-range.ensures in search rules
 
 pub slice_bounds-result-start : goal.slice_bounds-result-start
 slice_bounds-result-start c = let w = within c.args.records.now c.args.title.now c.type_inv.records c.section_range-range.ensures in search rules

@@ -8,18 +8,18 @@ use Rattle.walker.proofs.PlaceLaws.{text_holds}
 use Rattle.walker.proofs.text_at.Goals as goal
 
 pub slice_bounds-result-count : goal.slice_bounds-result-count
-slice_bounds-result-count c = let a = c.args in (text_holds a.records.now a.at a.n c.text_range-range.ensures).within.order
+slice_bounds-result-count c =
+    let w = (text_holds c.args.records.now _ _ c.text_range-range.ensures).within in
+    search rules
 
 pub slice_bounds-result-start : goal.slice_bounds-result-start
 slice_bounds-result-start c =
-    let a = c.args in
-    let w = (text_holds a.records.now a.at a.n c.text_range-range.ensures).within in
+    let w = (text_holds c.args.records.now _ _ c.text_range-range.ensures).within in
     search rules
 
 pub slice_bounds-result-end : goal.slice_bounds-result-end
 slice_bounds-result-end c =
-    let a = c.args in
-    let w = (text_holds a.records.now a.at a.n c.text_range-range.ensures).within in
+    let w = (text_holds c.args.records.now _ _ c.text_range-range.ensures).within in
     search rules
 
 pub returns : goal.returns

@@ -5,7 +5,7 @@ use Prim.Native.Nat.{ℕ, ◌+◌, ◌-◌}
 use mathlib.Core.List.{List}
 use lib.ListN.{length}
 use Rattle.sheet.specs.Forms.{mark_of}
-use Rattle.sheet.proofs.TestItems.{Items-to}
+use Rattle.sheet.proofs.TestItems.{ItemsTo}
 use Rattle.sheet.proofs.list.+item_list.Given as goal
 
 -- the bytes of the page from an offset on
@@ -23,7 +23,7 @@ abbrev pub decreases-list : goal.decreases-list
 decreases-list l = μ l.page.now l.at l.levels
 
 abbrev pub invariant-list-loop-next : goal.invariant-list-loop-next
-invariant-list-loop-next l = Items-to (l.levels - 1) (7 - (l.levels - 1)) (mark_of l.ordered) l.page l.initial.pos l.pos l.n l.count
+invariant-list-loop-next l = ItemsTo (l.levels - 1) (7 - (l.levels - 1)) (mark_of l.ordered) l.page l.initial.pos l.pos l.n l.count
 
 abbrev pub decreases-list-loop-next : goal.decreases-list-loop-next
 decreases-list-loop-next l = remaining l.page l.pos
