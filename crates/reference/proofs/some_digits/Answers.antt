@@ -25,9 +25,6 @@ returns-then-s-i c = sym (ap value (no_digits _ _ _ c.if-s-i.true))
 pub loop-j-init : goal.loop-j-init
 loop-j-init c = let e : c.args.i - c.args.i ≡ 0 = omega arith in (refl, (omega arith, rw e (omega arith)))
 
-pub bounds-s-j : goal.bounds-s-j
-bounds-s-j c = omega arith
-
 pub overflow_cast-s : goal.overflow_cast-s
 overflow_cast-s c = omega (arith, c.type_inv.s c.loop-j.j)
 
@@ -48,12 +45,6 @@ overflow_mul-v c = let h = small c in omega arith
 
 pub overflow_add-v : goal.overflow_add-v
 overflow_add-v c = record { fits = small c }
-
-pub overflow_add-j : goal.overflow_add-j
-overflow_add-j c = omega arith
-
-pub loop-j-smaller : goal.loop-j-smaller
-loop-j-smaller c = omega arith
 
 pub loop-j-preserved : goal.loop-j-preserved
 loop-j-preserved c =

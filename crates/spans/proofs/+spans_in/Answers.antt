@@ -61,9 +61,6 @@ loop-w-preserved-then-line-i-ne91 t c =
     let l = c.loop-w in
     ((advanced a.bold a.italic a.line.now a.out.now a.at l.w l.out l.invariant.0 c.loop-w-test.true (c.turn-w.ensures.0 l.invariant.0.text l.invariant.0.len)).0, c.turn-w.ensures.1)
 
-pub overflow_add-from : goal.overflow_add-from
-overflow_add-from t c = omega arith
-
 pub find_link-requires : goal.find_link-requires
 find_link-requires t c = c.loop-w.invariant.1
 

@@ -12,12 +12,6 @@ tick-init c = (rw c.resume-i.ensures (clear_resumed 96 _ _ _ _ c.requires.tick),
 pub returns-then-s-i : goal.returns-then-s-i
 returns-then-s-i c = (sym (clear_next 96 _ _ _ c.tick.invariant.0 ∙ next_end 96 _ _ c.if-s-i.true), note_tick _ _ c.tick.invariant.1 _ _ c.tick.invariant.0 _ c.note.ensures)
 
-pub overflow_add-i : goal.overflow_add-i
-overflow_add-i c = omega arith
-
-pub tick-smaller : goal.tick-smaller
-tick-smaller c = omega arith
-
 pub tick-preserved : goal.tick-preserved
 tick-preserved c = (clear_step 96 _ _ _ c.tick.invariant.0 c.if-s-i.false (eqb-false _ _ (sym c.ends_code.ensures ∙ c.if-ends_code.false)), c.tick.invariant.1)
 

@@ -11,40 +11,16 @@ link-init c = c.requires
 pub close-init : goal.close-init
 close-init c = (rw c.resume-i.ensures (clear_resumed 93 _ _ _ _ c.link.invariant.close), c.link.invariant)
 
-pub bounds-s-i : goal.bounds-s-i
-bounds-s-i c = omega arith
-
-pub overflow_add-i : goal.overflow_add-i
-overflow_add-i c = omega arith
-
-pub close-smaller : goal.close-smaller
-close-smaller c = omega arith
-
 pub close-preserved : goal.close-preserved
 close-preserved c = (clear_step 93 _ _ _ c.close.invariant.0 c.if-s-i.false c.if-s-i-eq93.false, c.close.invariant.1)
 
 pub paren-init : goal.paren-init
 paren-init c = tt
 
-pub overflow_add-close : goal.overflow_add-close
-overflow_add-close c = omega arith
-
-pub overflow_add-target : goal.overflow_add-target
-overflow_add-target c = omega arith
-
 pub end-init : goal.end-init
 end-init c =
     let k = note_close _ _ c.close.invariant.1 _ _ c.close.invariant.0 _ c.note-in-link.ensures in
     (rw c.resume-j.ensures (clear_resumed 41 _ _ _ _ k.end), k)
-
-pub bounds-s-j : goal.bounds-s-j
-bounds-s-j c = omega arith
-
-pub overflow_add-j : goal.overflow_add-j
-overflow_add-j c = omega arith
-
-pub end-smaller : goal.end-smaller
-end-smaller c = omega arith
 
 pub end-preserved : goal.end-preserved
 end-preserved c = (clear_step 41 _ _ _ c.end.invariant.0 c.if-s-j.false c.if-s-j-eq41.false, c.end.invariant.1)

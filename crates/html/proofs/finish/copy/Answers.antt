@@ -16,12 +16,6 @@ bounds-to-i c =
     let v = c.loop-i.invariant in
     omega (arith, filled_length _ _ _ _ v, c.loop-i-test.true, c.requires)
 
-pub overflow_add-i : goal.overflow_add-i
-overflow_add-i c = omega arith
-
-pub loop-i-smaller : goal.loop-i-smaller
-loop-i-smaller c = omega arith
-
 pub loop-i-preserved : goal.loop-i-preserved
 loop-i-preserved c =
     copy_more _ _ _ _ c.loop-i.invariant c.loop-i-test.true c.requires

@@ -6,9 +6,6 @@ use Rattle.html.proofs.OutLaws.{all_more, all_done}
 use lib.ListN.{length-set}
 use Rattle.html.proofs.output.push_all.Goals as goal
 
-pub loop-i-init : goal.loop-i-init
-loop-i-init c = (omega arith, omega arith, refl, refl)
-
 pub loop-i-preserved : goal.loop-i-preserved
 loop-i-preserved c =
     let l = c.loop-i in

@@ -6,9 +6,6 @@ use Rattle.html.proofs.OutLaws.{times_more}
 use lib.ListN.{length-set}
 use Rattle.html.proofs.output.push_times.Goals as goal
 
-pub loop-left-init : goal.loop-left-init
-loop-left-init c = (omega arith, refl, refl)
-
 pub loop-left-preserved : goal.loop-left-preserved
 loop-left-preserved c =
     let l = c.loop-left in

@@ -6,9 +6,6 @@ use Rattle.html.proofs.OutLaws.{spaces_more, spaces_stop, out_none}
 use Rattle.text.specs.Words.{drop_while, is}
 use Rattle.html.proofs.output.unspaced.Goals as goal
 
-pub loop-n-init : goal.loop-n-init
-loop-n-init c = (omega arith, refl)
-
 pub loop-n-preserved : goal.loop-n-preserved
 loop-n-preserved c =
     let l = c.loop-n in

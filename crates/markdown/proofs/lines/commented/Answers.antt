@@ -9,9 +9,6 @@ use Rattle.markdown.proofs.lines.commented.Goals as goal
 pub loop-j-init : goal.loop-j-init
 loop-j-init c = copying_none _ _ _ _ c.requires.0
 
-pub bounds-markdown-j : goal.bounds-markdown-j
-bounds-markdown-j c = omega arith
-
 pub shape_of-work-then-b-eq10 : goal.shape_of-work-then-b-eq10
 shape_of-work-then-b-eq10 c = c.loop-j.invariant.size
 
@@ -32,12 +29,6 @@ bounds-work-k c = let v = c.loop-j.invariant in omega (arith, v.short, v.size, c
 
 pub overflow_add-k : goal.overflow_add-k
 overflow_add-k c = let v = c.loop-j.invariant in omega (arith, v.short, v.size, c.requires.1.0)
-
-pub overflow_add-j : goal.overflow_add-j
-overflow_add-j c = omega arith
-
-pub loop-j-smaller : goal.loop-j-smaller
-loop-j-smaller c = omega arith
 
 pub loop-j-preserved : goal.loop-j-preserved
 loop-j-preserved c =

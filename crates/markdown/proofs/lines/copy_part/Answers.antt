@@ -22,12 +22,6 @@ overflow_add-work-in-loop-i c = let p = c.requires in omega (arith, p.1.1, c.wel
 pub bounds-work-at : goal.bounds-work-at
 bounds-work-at c = let p = c.requires in omega (arith, p.1.1, c.loop-i.invariant.size)
 
-pub overflow_add-i : goal.overflow_add-i
-overflow_add-i c = omega arith
-
-pub loop-i-smaller : goal.loop-i-smaller
-loop-i-smaller c = omega arith
-
 pub loop-i-preserved : goal.loop-i-preserved
 loop-i-preserved c = let p = c.requires in copies_more _ _ _ _ _ _ c.loop-i.invariant p.0 p.1.0 p.1.1 c.loop-i-test.true
 

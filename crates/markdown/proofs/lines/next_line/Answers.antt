@@ -9,9 +9,6 @@ use Rattle.markdown.proofs.lines.next_line.Goals as goal
 pub loop-j-init : goal.loop-j-init
 loop-j-init c = (quiet_passed _ _ _ c.requires.0 c.quiet_blocks-j.ensures, refl)
 
-pub bounds-markdown-j : goal.bounds-markdown-j
-bounds-markdown-j c = omega arith
-
 pub shape_of-work-then-b-eq10 : goal.shape_of-work-then-b-eq10
 shape_of-work-then-b-eq10 c = ap length c.loop-j.invariant.1
 
@@ -38,12 +35,6 @@ shape_of-work-then-stands_at c = omega (arith, c.commented.auto.work, c.put_byte
 
 pub returns-then-stands_at : goal.returns-then-stands_at
 returns-then-stands_at c = passed_comment _ _ _ c.loop-j.invariant.0 _ _ _ _ _ c.requires.1 c.loop-j.invariant.1 c.put_bytes.ensures c.commented.ensures
-
-pub overflow_add-j : goal.overflow_add-j
-overflow_add-j c = omega arith
-
-pub loop-j-smaller : goal.loop-j-smaller
-loop-j-smaller c = omega arith
 
 pub loop-j-preserved : goal.loop-j-preserved
 loop-j-preserved c = (passing_other _ _ _ c.loop-j.invariant.0 c.loop-j-test.true c.if-b-eq10.false (sym c.stands_at.ensures ∙ c.if-stands_at.false), c.loop-j.invariant.1)

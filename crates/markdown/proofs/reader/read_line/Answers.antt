@@ -7,9 +7,6 @@ use Rattle.markdown.proofs.reader.read_line.Goals as goal
 pub text_of-text-requires : goal.text_of-text-requires
 text_of-text-requires c = whole_inside _ _ _ _ c.requires
 
-pub trimmed-t-requires : goal.trimmed-t-requires
-trimmed-t-requires c = record { order = omega arith; bound = omega arith }
-
 pub flush-requires : goal.flush-requires
 flush-requires c = let g = c.requires in (g.safe, omega (arith, g.low))
 

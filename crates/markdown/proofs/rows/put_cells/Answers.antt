@@ -7,12 +7,6 @@ use Rattle.markdown.proofs.rows.put_cells.Goals as goal
 pub loop-i-init : goal.loop-i-init
 loop-i-init c = filling_none _ _ _ _ c.requires.0
 
-pub slice_bounds-bar_of-count : goal.slice_bounds-bar_of-count
-slice_bounds-bar_of-count c = omega arith
-
-pub slice_bounds-bar_of-start : goal.slice_bounds-bar_of-start
-slice_bounds-bar_of-start c = omega arith
-
 pub slice_bounds-bar_of-end : goal.slice_bounds-bar_of-end
 slice_bounds-bar_of-end c = let v = c.loop-i.invariant in omega (arith, v.size, c.requires.1.0, c.requires.1.1)
 
@@ -22,14 +16,8 @@ bounds-work-i c = let v = c.loop-i.invariant in omega (arith, v.size, c.requires
 pub bounds-work-k : goal.bounds-work-k
 bounds-work-k c = let v = c.loop-i.invariant in omega (arith, v.size, v.room, v.low, v.high, c.requires.1.1)
 
-pub overflow_add-i : goal.overflow_add-i
-overflow_add-i c = omega arith
-
 pub overflow_add-k : goal.overflow_add-k
 overflow_add-k c = let v = c.loop-i.invariant in omega (arith, v.room, v.high, v.low, c.requires.1.1, c.well_formed.0.0)
-
-pub loop-i-smaller-then-n-eq0 : goal.loop-i-smaller-then-n-eq0
-loop-i-smaller-then-n-eq0 c = omega arith
 
 pub loop-i-preserved-then-n-eq0 : goal.loop-i-preserved-then-n-eq0
 loop-i-preserved-then-n-eq0 c = filling_other _ _ _ _ _ _ _ c.loop-i.invariant c.requires.1.0 c.requires.1.1 c.loop-i-test.true _ c.bar_of-n.ensures c.if-n-eq0.true

@@ -11,17 +11,8 @@ use Rattle.markdown.proofs.rows.run_end.Goals as goal
 pub loop-e-init : goal.loop-e-init
 loop-e-init c = (rw (take-length c.args.s.now), omega arith)
 
-pub overflow_sub-last : goal.overflow_sub-last
-overflow_sub-last c = omega arith
-
-pub bounds-s-last : goal.bounds-s-last
-bounds-s-last c = omega arith
-
 pub returns-then-s-last : goal.returns-then-s-last
 returns-then-s-last c = let b = c.args.b in (bars_stop (λ (x : ℕ). eqb x b) _ _ c.loop-e.invariant.0 c.loop-e-test.true c.loop-e.invariant.1 (ne_eqb _ _ c.if-s-last.true), c.loop-e.invariant.1)
-
-pub loop-e-smaller : goal.loop-e-smaller
-loop-e-smaller c = omega arith
 
 pub loop-e-preserved : goal.loop-e-preserved
 loop-e-preserved c = let b = c.args.b in (bars_next (λ (x : ℕ). eqb x b) _ _ c.loop-e.invariant.0 c.loop-e-test.true c.loop-e.invariant.1 (eq-eqb _ _ c.if-s-last.false), omega arith)

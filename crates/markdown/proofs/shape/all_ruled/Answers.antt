@@ -9,17 +9,11 @@ use Prim.Native.Nat.{◌+◌}
 use Rattle.markdown.proofs.shape.all_ruled.Goals as goal
 use Rattle.markdown.proofs.shape.all_ruled.Goals.{Else-not-is_ruled}
 
-pub loop-j-init : goal.loop-j-init
-loop-j-init c = (refl, omega arith)
-
 pub bounds-line-j : goal.bounds-line-j
 bounds-line-j c = c.loop-j-test.true
 
 pub returns-then-not-is_ruled : goal.returns-then-not-is_ruled
 returns-then-not-is_ruled c = sym (sym c.loop-j.invariant.0 ∙ ruled_stop _ _ c.loop-j-test.true (sym c.is_ruled.ensures ∙ c.if-not-is_ruled.true))
-
-pub overflow_add-j : goal.overflow_add-j
-overflow_add-j c = omega arith
 
 -- the byte at j is passed
 one : (c : Else-not-is_ruled) → all ruled (drop (c.loop-j.j + 1) c.args.line.now) ≡ all ruled (drop c.args.i c.args.line.now)
@@ -33,9 +27,6 @@ loop-j-smaller-then-j-eq0 c = omega (arith, c.ruled_blocks-j.ensures.low, c.rule
 
 pub loop-j-preserved-then-j-eq0 : goal.loop-j-preserved-then-j-eq0
 loop-j-preserved-then-j-eq0 c = (sym (ruled_run _ _ _ c.ruled_blocks-j.ensures) ∙ one (goal.at.loop-j-preserved-then-j-eq0 c).Else-not-is_ruled, c.ruled_blocks-j.ensures.high)
-
-pub loop-j-smaller : goal.loop-j-smaller
-loop-j-smaller c = omega arith
 
 pub loop-j-preserved : goal.loop-j-preserved
 loop-j-preserved c = (one (goal.at.loop-j-preserved c).Else-not-is_ruled, omega arith)

@@ -9,17 +9,8 @@ use Rattle.markdown.proofs.shape.digits_end.Goals as goal
 pub loop-j-init : goal.loop-j-init
 loop-j-init c = at_start is_digit _ _ c.requires
 
-pub bounds-s-j : goal.bounds-s-j
-bounds-s-j c = omega arith
-
 pub returns-then-not-is_digit : goal.returns-then-not-is_digit
 returns-then-not-is_digit c = sym (at_stop is_digit _ _ _ c.loop-j.invariant c.loop-j-test.true (sym c.is_digit.ensures ∙ c.if-not-is_digit.true))
-
-pub overflow_add-j : goal.overflow_add-j
-overflow_add-j c = omega arith
-
-pub loop-j-smaller : goal.loop-j-smaller
-loop-j-smaller c = omega arith
 
 pub loop-j-preserved : goal.loop-j-preserved
 loop-j-preserved c = past_one is_digit _ _ _ c.loop-j.invariant c.loop-j-test.true (sym c.is_digit.ensures ∙ c.if-not-is_digit.false)

@@ -10,14 +10,8 @@ use Rattle.markdown.proofs.shape.is_rule.Goals as goal
 pub returns-then-line-lt3 : goal.returns-then-line-lt3
 returns-then-line-lt3 c = rule_short _ c.if-line-lt3.true
 
-pub loop-i-init : goal.loop-i-init
-loop-i-init c = (refl, (refl, omega arith))
-
 pub bounds-line-i : goal.bounds-line-i
 bounds-line-i c = c.loop-i-test.true
-
-pub overflow_add-i : goal.overflow_add-i
-overflow_add-i c = omega arith
 
 pub all_ruled-requires : goal.all_ruled-requires
 all_ruled-requires c = omega (arith, c.loop-i-test.true)
@@ -29,12 +23,6 @@ returns-then-is_mark c =
 
 pub returns-then-not-is_ruled : goal.returns-then-not-is_ruled
 returns-then-not-is_ruled c = rule_not _ (sym c.loop-i.invariant.0 ∙ ruled_stop _ _ c.loop-i-test.true (sym c.is_ruled.ensures ∙ c.if-not-is_ruled.true))
-
-pub overflow_add-i-in-loop-i : goal.overflow_add-i-in-loop-i
-overflow_add-i-in-loop-i c = omega arith
-
-pub loop-i-smaller : goal.loop-i-smaller
-loop-i-smaller c = omega arith
 
 pub loop-i-preserved : goal.loop-i-preserved
 loop-i-preserved c = (sym (ruled_next _ _ c.loop-i-test.true (sym c.is_ruled.ensures ∙ c.if-not-is_ruled.false)) ∙ c.loop-i.invariant.0, (sym (marks_none _ _ c.loop-i-test.true (sym c.is_mark.ensures ∙ c.if-is_mark.false)) ∙ c.loop-i.invariant.1.0, omega arith))

@@ -6,21 +6,6 @@ use Rattle.text.proofs.RunLaws.{block_next}
 use Rattle.markdown.proofs.RuleLaws.{ruled}
 use Rattle.markdown.proofs.shape.is_ruled_block.Goals as goal
 
-pub loop-k-init : goal.loop-k-init
-loop-k-init c = (refl, omega arith)
-
-pub overflow_add-b : goal.overflow_add-b
-overflow_add-b c = omega arith
-
-pub bounds-line-i : goal.bounds-line-i
-bounds-line-i c = omega arith
-
-pub overflow_add-k : goal.overflow_add-k
-overflow_add-k c = omega arith
-
-pub loop-k-smaller : goal.loop-k-smaller
-loop-k-smaller c = omega arith
-
 pub loop-k-preserved : goal.loop-k-preserved
 loop-k-preserved c =
     let a = c.args in

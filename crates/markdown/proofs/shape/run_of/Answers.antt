@@ -9,22 +9,10 @@ use mathlib.Core.Path.{ap}
 use Prim.Native.Nat.{ℕ}
 use Rattle.markdown.proofs.shape.run_of.Goals as goal
 
-pub loop-i-init : goal.loop-i-init
-loop-i-init c = (omega arith, omega arith)
-
-pub bounds-s-i : goal.bounds-s-i
-bounds-s-i c = omega arith
-
 pub returns-then-s-i : goal.returns-then-s-i
 returns-then-s-i c =
     let b = c.args.b in
     omega (arith, c.loop-i.invariant.0, ap length (run_stop (λ (x : ℕ). eqb x b) c.args.s.now c.loop-i.i c.loop-i-test.true (ne_eqb _ _ c.if-s-i.true)))
-
-pub overflow_add-i : goal.overflow_add-i
-overflow_add-i c = omega arith
-
-pub loop-i-smaller : goal.loop-i-smaller
-loop-i-smaller c = omega arith
 
 pub loop-i-preserved : goal.loop-i-preserved
 loop-i-preserved c =

@@ -9,18 +9,6 @@ use borrow.Author.Fill.{fill_more}
 use Rattle.records.proofs.Stores.{cleared}
 use Rattle.records.proofs.writer.clear.Goals as goal
 
-pub loop-i-init : goal.loop-i-init
-loop-i-init c = (omega arith, refl, refl)
-
-pub bounds-out-i : goal.bounds-out-i
-bounds-out-i c = omega arith
-
-pub overflow_add-i : goal.overflow_add-i
-overflow_add-i c = omega arith
-
-pub loop-i-smaller : goal.loop-i-smaller
-loop-i-smaller c = omega arith
-
 pub loop-i-preserved : goal.loop-i-preserved
 loop-i-preserved c = let a = c.args in let l = c.loop-i in (omega arith, length-set l.out l.i 0 ∙ l.invariant.1, ap (λ (x : List ℕ). set x l.i 0) l.invariant.2 ∙ fill_more l.i 0 a.out.now (omega arith))
 

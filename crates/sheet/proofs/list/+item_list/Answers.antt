@@ -94,9 +94,6 @@ item-returns-in_default t c =
 pub item-overflow_sub-levels : goal.item-overflow_sub-levels
 item-overflow_sub-levels t c = omega (arith, c.requires)
 
-pub item-lead-requires : goal.item-lead-requires
-item-lead-requires t c = omega arith
-
 pub item-returns-then-starts_with : goal.item-returns-then-starts_with
 item-returns-then-starts_with t c =
     let a = c.args in

@@ -4,15 +4,6 @@ use native.Mathlib.Omega.{arith}
 use Rattle.sheet.proofs.TestForms.{digit_less, digit_last}
 use Rattle.sheet.proofs.list.digits.Goals as goal
 
-pub loop-m-init : goal.loop-m-init
-loop-m-init c = (omega arith, omega arith, omega arith, omega arith)
-
-pub overflow_add-k : goal.overflow_add-k
-overflow_add-k c = omega arith
-
-pub loop-m-smaller : goal.loop-m-smaller
-loop-m-smaller c = omega arith
-
 pub loop-m-preserved : goal.loop-m-preserved
 loop-m-preserved c =
     let a = c.args in

@@ -11,36 +11,6 @@ use Rattle.text.proofs.beside.is_fit_block.Goals as goal
 pub loop-k-init : goal.loop-k-init
 loop-k-init c = let i = c.args.i in (λ _. rw (add-zero i) (fit_none c.args.s.now i), omega arith)
 
-pub overflow_add-j : goal.overflow_add-j
-overflow_add-j c = omega arith
-
-pub overflow_sub-j : goal.overflow_sub-j
-overflow_sub-j c = omega arith
-
-pub bounds-s-j : goal.bounds-s-j
-bounds-s-j c = omega arith
-
-pub overflow_sub-j-in-loop-k : goal.overflow_sub-j-in-loop-k
-overflow_sub-j-in-loop-k c = omega arith
-
-pub bounds-s-j-in-loop-k : goal.bounds-s-j-in-loop-k
-bounds-s-j-in-loop-k c = omega arith
-
-pub overflow_sub-j-in-loop-k-2 : goal.overflow_sub-j-in-loop-k-2
-overflow_sub-j-in-loop-k-2 c = omega arith
-
-pub bounds-s-j-in-loop-k-2 : goal.bounds-s-j-in-loop-k-2
-bounds-s-j-in-loop-k-2 c = omega arith
-
-pub bounds-s-j-in-loop-k-3 : goal.bounds-s-j-in-loop-k-3
-bounds-s-j-in-loop-k-3 c = omega arith
-
-pub overflow_add-k : goal.overflow_add-k
-overflow_add-k c = omega arith
-
-pub loop-k-smaller : goal.loop-k-smaller
-loop-k-smaller c = omega arith
-
 pub loop-k-preserved : goal.loop-k-preserved
 loop-k-preserved c =
     let a = c.args in

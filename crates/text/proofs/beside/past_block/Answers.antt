@@ -5,33 +5,6 @@ use mathlib.Core.Path.{refl, sym, ◌∙◌}
 use Rattle.text.proofs.BesideLaws.{fit_same}
 use Rattle.text.proofs.beside.past_block.Goals as goal
 
-pub returns-then-i-lt3 : goal.returns-then-i-lt3
-returns-then-i-lt3 c = (refl, (omega arith, omega arith))
-
-pub overflow_sub-s : goal.overflow_sub-s
-overflow_sub-s c = omega arith
-
-pub returns-then-s-i-lt32 : goal.returns-then-s-i-lt32
-returns-then-s-i-lt32 c = (refl, (omega arith, omega arith))
-
-pub is_clear-requires : goal.is_clear-requires
-is_clear-requires c = (omega arith, omega arith)
-
-pub returns-then-not-is_clear : goal.returns-then-not-is_clear
-returns-then-not-is_clear c = (refl, (omega arith, omega arith))
-
-pub is_fit_block-requires : goal.is_fit_block-requires
-is_fit_block-requires c = (omega arith, omega arith)
-
-pub returns-then-not-is_fit_block : goal.returns-then-not-is_fit_block
-returns-then-not-is_fit_block c = (refl, (omega arith, omega arith))
-
-pub overflow_add-e : goal.overflow_add-e
-overflow_add-e c = omega arith
-
-pub last_clear-j-requires : goal.last_clear-j-requires
-last_clear-j-requires c = (omega arith, omega arith)
-
 pub overflow_add-j : goal.overflow_add-j
 overflow_add-j c = let h = c.last_clear-j.ensures.0.0 in omega arith
 
@@ -45,6 +18,3 @@ returns-then-e-j c =
           (λ m b d. c.is_fit_block.ensures c.if-not-is_fit_block.false m b (omega arith)),
       (omega arith, omega arith),
     )
-
-pub returns : goal.returns
-returns c = (refl, (omega arith, omega arith))

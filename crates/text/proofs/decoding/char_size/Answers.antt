@@ -7,9 +7,6 @@ use Rattle.text.specs.Utf8.{char_size}
 use Rattle.text.proofs.Utf8.{char_four}
 use Rattle.text.proofs.decoding.char_size.Goals as goal
 
-pub four_at-f-requires : goal.four_at-f-requires
-four_at-f-requires c = omega arith
-
 pub size_of-requires : goal.size_of-requires
 size_of-requires c =
     let known = c.type_inv.s in

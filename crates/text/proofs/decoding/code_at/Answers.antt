@@ -10,9 +10,6 @@ use Rattle.text.proofs.decoding.code_at.Goals as goal
 pub returns-then-s-i : goal.returns-then-s-i
 returns-then-s-i c = sym (code_end _ _ (char_past c.args.s.now c.args.i c.if-s-i.true))
 
-pub four_at-f-requires : goal.four_at-f-requires
-four_at-f-requires c = omega arith
-
 pub code_or_stray-requires : goal.code_or_stray-requires
 code_or_stray-requires c =
     let known = c.type_inv.s in

@@ -5,9 +5,6 @@ use mathlib.Core.Path.{sym, ◌∙◌}
 use Rattle.text.proofs.Utf8.{size_0}
 use Rattle.text.proofs.decoding.code_or_stray.Goals as goal
 
-pub overflow_add-result : goal.overflow_add-result
-overflow_add-result c = omega arith
-
 pub returns-then-n-eq0 : goal.returns-then-n-eq0
 returns-then-n-eq0 c = rw (size_0 _ _ _ _ (sym c.size_of-n.ensures ∙ c.if-n-eq0.true))
 

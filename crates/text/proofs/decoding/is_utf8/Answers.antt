@@ -11,14 +11,8 @@ use Rattle.text.proofs.AsciiLaws.{low_ascii, run_to}
 use Rattle.text.proofs.decoding.is_utf8.Goals as goal
 use Rattle.text.proofs.decoding.is_utf8.Goals.{Else-n-eq0}
 
-pub loop-i-init : goal.loop-i-init
-loop-i-init c = (refl, omega arith)
-
 pub overflow_sub-s : goal.overflow_sub-s
 overflow_sub-s c = c.loop-i.invariant.1
-
-pub ascii_blocks-e-requires : goal.ascii_blocks-e-requires
-ascii_blocks-e-requires c = omega arith
 
 pub loop-i-smaller-then-e-i : goal.loop-i-smaller-then-e-i
 loop-i-smaller-then-e-i c = let r = c.ascii_blocks-e.ensures in let l = r.low in let h = r.high in let n = c.if-e-i.true in omega arith
@@ -26,23 +20,11 @@ loop-i-smaller-then-e-i c = let r = c.ascii_blocks-e.ensures in let l = r.low in
 pub loop-i-preserved-then-e-i : goal.loop-i-preserved-then-e-i
 loop-i-preserved-then-e-i c = let r = c.ascii_blocks-e.ensures in (c.loop-i.invariant.0 ∙ run_to _ _ _ r, r.high)
 
-pub bounds-s-i : goal.bounds-s-i
-bounds-s-i c = omega arith
-
-pub overflow_add-i : goal.overflow_add-i
-overflow_add-i c = omega arith
-
-pub loop-i-smaller-then-s-i-lt128 : goal.loop-i-smaller-then-s-i-lt128
-loop-i-smaller-then-s-i-lt128 c = omega arith
-
 pub loop-i-preserved-then-s-i-lt128 : goal.loop-i-preserved-then-s-i-lt128
 loop-i-preserved-then-s-i-lt128 c =
     let s = c.args.s.now in
     let i = c.loop-i.i in
     (c.loop-i.invariant.0 ∙ run_to s i (i + 1) (past_one is_ascii s i i (at_start is_ascii s i (omega arith)) (omega arith) (low_ascii _ c.if-s-i-lt128.true)), omega arith)
-
-pub past_block-j-requires : goal.past_block-j-requires
-past_block-j-requires c = omega arith
 
 pub loop-i-smaller-then-j-i : goal.loop-i-smaller-then-j-i
 loop-i-smaller-then-j-i c = let h = c.past_block-j.ensures.1 in let l = h.0 in let g = h.1 in let n = c.if-j-i.true in omega arith
@@ -50,9 +32,6 @@ loop-i-smaller-then-j-i c = let h = c.past_block-j.ensures.1 in let l = h.0 in l
 pub loop-i-preserved-then-j-i : goal.loop-i-preserved-then-j-i
 unfolding is_utf8
 loop-i-preserved-then-j-i c = let h = c.past_block-j.ensures in (c.loop-i.invariant.0 ∙ h.0, h.1.1)
-
-pub char_size-n-requires : goal.char_size-n-requires
-char_size-n-requires c = omega arith
 
 pub returns-then-n-eq0 : goal.returns-then-n-eq0
 unfolding is_utf8

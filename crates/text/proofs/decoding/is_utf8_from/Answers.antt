@@ -7,12 +7,6 @@ use Rattle.text.proofs.Laws.{Step, advance_end, no_char, some_char, stuck, scala
 use Rattle.text.proofs.decoding.is_utf8_from.Goals as goal
 use Rattle.text.proofs.decoding.is_utf8_from.Goals.{Else-n-eq0}
 
-pub loop-j-init : goal.loop-j-init
-loop-j-init c = (refl, omega arith)
-
-pub char_size-n-requires : goal.char_size-n-requires
-char_size-n-requires c = omega arith
-
 pub returns-then-n-eq0 : goal.returns-then-n-eq0
 unfolding is_utf8
 returns-then-n-eq0 c = sym (c.loop-j.invariant.0 ∙ stuck _ _ c.loop-j-test.true (no_char c.args.s.now c.loop-j.j (sym c.char_size-n.ensures ∙ c.if-n-eq0.true)))

@@ -11,9 +11,6 @@ use Rattle.text.proofs.decoding.size_at.Goals as goal
 pub returns-then-s-i : goal.returns-then-s-i
 returns-then-s-i c = sym (ap size_of (char_past c.args.s.now c.args.i c.if-s-i.true))
 
-pub char_size-n-requires : goal.char_size-n-requires
-char_size-n-requires c = omega arith
-
 pub returns-then-n-eq0 : goal.returns-then-n-eq0
 returns-then-n-eq0 c = size_none (char (drop c.args.i c.args.s.now)) (next_is c.args.s.now c.args.i (omega arith)).low (sym c.char_size-n.ensures ∙ c.if-n-eq0.true)
 

@@ -22,9 +22,6 @@ passed c = pos_ascii _ _ _ _ c.loop-k.invariant.0 (let h = c.ascii_step-w.ensure
 pub loop-k-init : goal.loop-k-init
 loop-k-init c = (pos_zero _, omega arith)
 
-pub overflow_sub-most : goal.overflow_sub-most
-overflow_sub-most c = omega arith
-
 pub overflow_sub-s : goal.overflow_sub-s
 overflow_sub-s c = c.loop-k.invariant.0.bound
 
@@ -61,12 +58,6 @@ loop-k-preserved-then-s-i-lt128 c = let h = c.ascii_step-w.ensures.1.1 in (passe
 
 pub overflow_add-i-in-loop-k : goal.overflow_add-i-in-loop-k
 overflow_add-i-in-loop-k c = let h = step c in omega (arith, h.bound)
-
-pub overflow_add-k-in-loop-k : goal.overflow_add-k-in-loop-k
-overflow_add-k-in-loop-k c = omega arith
-
-pub loop-k-smaller : goal.loop-k-smaller
-loop-k-smaller c = omega arith
 
 pub loop-k-preserved : goal.loop-k-preserved
 loop-k-preserved c = (pos_next _ _ _ _ c.loop-k.invariant.0 (step c), omega arith)

@@ -10,6 +10,3 @@ returns-then-s-n c = sym (take_all _ _ c.if-s-n.true)
 
 pub slice_bounds-result-end : goal.slice_bounds-result-end
 slice_bounds-result-end c = sym (length-take-le _ _ (omega arith))
-
-pub returns : goal.returns
-returns c = refl

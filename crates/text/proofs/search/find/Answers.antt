@@ -16,20 +16,8 @@ loop-k-init c = at_start (other _) _ _ (omega arith)
 pub returns-then-s-j : goal.returns-then-s-j
 returns-then-s-j c = sym (run_nowhere _ _ _ _ c.loop-k.invariant c.if-s-j.true)
 
-pub bounds-s-j : goal.bounds-s-j
-bounds-s-j c = omega arith
-
 pub returns-then-s-j-2 : goal.returns-then-s-j-2
 returns-then-s-j-2 c = sym (run_found _ _ _ _ c.loop-k.invariant c.if-s-j.false c.if-s-j-2.true)
-
-pub overflow_add-j : goal.overflow_add-j
-overflow_add-j c = omega arith
-
-pub overflow_add-k : goal.overflow_add-k
-overflow_add-k c = omega arith
-
-pub loop-k-smaller : goal.loop-k-smaller
-loop-k-smaller c = omega arith
 
 pub loop-k-preserved : goal.loop-k-preserved
 loop-k-preserved c = past_one (other _) _ _ _ c.loop-k.invariant c.if-s-j.false (other_is _ _ c.if-s-j-2.false)
@@ -40,17 +28,8 @@ other_blocks-e-requires c = c.loop-k.invariant.high
 pub loop-e-init : goal.loop-e-init
 loop-e-init c = past_run (other _) _ _ _ _ c.loop-k.invariant c.other_blocks-e.ensures
 
-pub bounds-s-e : goal.bounds-s-e
-bounds-s-e c = omega arith
-
 pub returns-then-s-e : goal.returns-then-s-e
 returns-then-s-e c = sym (run_found _ _ _ _ c.loop-e.invariant c.loop-e-test.true c.if-s-e.true)
-
-pub overflow_add-e : goal.overflow_add-e
-overflow_add-e c = omega arith
-
-pub loop-e-smaller : goal.loop-e-smaller
-loop-e-smaller c = omega arith
 
 pub loop-e-preserved : goal.loop-e-preserved
 loop-e-preserved c = past_one (other _) _ _ _ c.loop-e.invariant c.loop-e-test.true (other_is _ _ c.if-s-e.false)

@@ -14,30 +14,6 @@ returns-then-i-ne0 c = λ e. false_true e
 pub loop-k-init : goal.loop-k-init
 loop-k-init c = let i = c.args.i in (λ _. rw (add-zero i) (seek_start _ _ i (omega arith)), omega arith)
 
-pub overflow_add-j : goal.overflow_add-j
-overflow_add-j c = omega arith
-
-pub bounds-s-j : goal.bounds-s-j
-bounds-s-j c = omega arith
-
-pub overflow_add-free : goal.overflow_add-free
-overflow_add-free c = omega arith
-
-pub bounds-s-j-in-loop-k : goal.bounds-s-j-in-loop-k
-bounds-s-j-in-loop-k c = omega arith
-
-pub overflow_add-free-in-loop-k : goal.overflow_add-free-in-loop-k
-overflow_add-free-in-loop-k c = omega arith
-
-pub bounds-s-j-in-loop-k-2 : goal.bounds-s-j-in-loop-k-2
-bounds-s-j-in-loop-k-2 c = omega arith
-
-pub overflow_add-k : goal.overflow_add-k
-overflow_add-k c = omega arith
-
-pub loop-k-smaller : goal.loop-k-smaller
-loop-k-smaller c = omega arith
-
 pub loop-k-preserved : goal.loop-k-preserved
 loop-k-preserved c =
     let a = c.args in

@@ -6,21 +6,6 @@ use Rattle.text.specs.Run.{other}
 use Rattle.text.proofs.RunLaws.{block_next}
 use Rattle.text.proofs.search.is_other_block.Goals as goal
 
-pub loop-k-init : goal.loop-k-init
-loop-k-init c = (refl, omega arith)
-
-pub overflow_add-others : goal.overflow_add-others
-overflow_add-others c = omega arith
-
-pub bounds-s-i : goal.bounds-s-i
-bounds-s-i c = omega arith
-
-pub overflow_add-k : goal.overflow_add-k
-overflow_add-k c = omega arith
-
-pub loop-k-smaller : goal.loop-k-smaller
-loop-k-smaller c = omega arith
-
 pub loop-k-preserved : goal.loop-k-preserved
 unfolding other
 loop-k-preserved c =

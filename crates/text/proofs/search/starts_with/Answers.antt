@@ -10,32 +10,14 @@ use Rattle.text.proofs.search.starts_with.Goals as goal
 pub returns-then-s-i : goal.returns-then-s-i
 returns-then-s-i c = rw (drop_of_length-le c.args.s.now {i = c.args.i} (omega arith)) (sym (starts_nil c.args.p.now))
 
-pub overflow_sub-s : goal.overflow_sub-s
-overflow_sub-s c = omega arith
-
 pub returns-then-s-i-2 : goal.returns-then-s-i-2
 returns-then-s-i-2 c = sym (starts_short c.args.p.now (drop c.args.i c.args.s.now) (omega (arith, length-drop c.args.i c.args.s.now)))
 
 pub loop-j-init : goal.loop-j-init
 loop-j-init c = (rw (add-zero c.args.i), omega arith)
 
-pub overflow_add-i : goal.overflow_add-i
-overflow_add-i c = omega arith
-
-pub bounds-s-i : goal.bounds-s-i
-bounds-s-i c = omega arith
-
-pub bounds-p-j : goal.bounds-p-j
-bounds-p-j c = omega arith
-
 pub returns-then-s-i-3 : goal.returns-then-s-i-3
 returns-then-s-i-3 c = sym (c.loop-j.invariant.0 ∙ starts_other c.args.p.now c.args.s.now _ _ (omega arith) (omega arith) c.if-s-i-3.true)
-
-pub overflow_add-j : goal.overflow_add-j
-overflow_add-j c = omega arith
-
-pub loop-j-smaller : goal.loop-j-smaller
-loop-j-smaller c = omega arith
 
 pub loop-j-preserved : goal.loop-j-preserved
 loop-j-preserved c = (c.loop-j.invariant.0 ∙ starts_next c.args.p.now c.args.s.now _ _ (omega arith) (omega arith) c.if-s-i-3.false, omega arith)

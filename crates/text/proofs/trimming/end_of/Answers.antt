@@ -22,18 +22,6 @@ gone c = end_space _ _ _ c.space_before-k.ensures (omega arith)
 pub loop-e-init : goal.loop-e-init
 loop-e-init c = (rw (take-length c.args.s.now), omega arith)
 
-pub overflow_sub-b : goal.overflow_sub-b
-overflow_sub-b c = omega arith
-
-pub bounds-s-e : goal.bounds-s-e
-bounds-s-e c = omega arith
-
-pub overflow_sub-e : goal.overflow_sub-e
-overflow_sub-e c = omega arith
-
-pub loop-e-smaller-then-is_blank : goal.loop-e-smaller-then-is_blank
-loop-e-smaller-then-is_blank c = omega arith
-
 pub loop-e-preserved-then-is_blank : goal.loop-e-preserved-then-is_blank
 loop-e-preserved-then-is_blank c =
     let v = c.loop-e.invariant in
@@ -44,9 +32,6 @@ pub returns-then-b-lt128 : goal.returns-then-b-lt128
 returns-then-b-lt128 c =
     let v = c.loop-e.invariant in
     sym (end_at _ _ v.1 (sym v.0 ∙ end_low_other c.args.s.now c.loop-e.e (omega arith) v.1 c.if-b-lt128.true (blank_no _ c.if-b-lt128.true (sym c.is_blank.ensures ∙ c.if-is_blank.false))))
-
-pub space_before-k-requires : goal.space_before-k-requires
-space_before-k-requires c = (omega arith, (omega arith, omega arith))
 
 pub returns-then-k-eq0 : goal.returns-then-k-eq0
 returns-then-k-eq0 c =

@@ -13,9 +13,6 @@ use Rattle.text.proofs.trimming.past_blank.Goals.{Start}
 one : (c : Start) → RunTo is_blank c.args.s.now c.args.i (c.args.i + 1)
 one c = past_one is_blank c.args.s.now c.args.i c.args.i (at_start is_blank _ _ (omega arith)) c.requires.0 c.requires.1
 
-pub overflow_add-j : goal.overflow_add-j
-overflow_add-j c = omega arith
-
 pub returns-then-j-ne0 : goal.returns-then-j-ne0
 returns-then-j-ne0 c = (one (goal.at.returns-then-j-ne0 c).Start, omega arith)
 

@@ -38,9 +38,6 @@ pub returns-then-e-lt2 : goal.returns-then-e-lt2
 unfolding space_before
 returns-then-e-lt2 c = simp (l1 (goal.at.returns-then-e-lt2 c).Start, q1 (goal.at.returns-then-e-lt2 c).Start, lt-ltb c.args.e 2 c.if-e-lt2.true)
 
-pub wide_space-requires : goal.wide_space-requires
-wide_space-requires c = omega arith
-
 pub returns-then-wide_space-eq2 : goal.returns-then-wide_space-eq2
 unfolding space_before
 returns-then-wide_space-eq2 c = simp (l1 (goal.at.returns-then-wide_space-eq2 c).Start, q1 (goal.at.returns-then-wide_space-eq2 c).Start, l2 (goal.at.returns-then-wide_space-eq2 c).Else-e-lt2, q2 (goal.at.returns-then-wide_space-eq2 c).After-wide_space ∙ eq-eqb _ 2 c.if-wide_space-eq2.true)
@@ -48,9 +45,6 @@ returns-then-wide_space-eq2 c = simp (l1 (goal.at.returns-then-wide_space-eq2 c)
 pub returns-then-e-lt3 : goal.returns-then-e-lt3
 unfolding space_before
 returns-then-e-lt3 c = simp (l1 (goal.at.returns-then-e-lt3 c).Start, q1 (goal.at.returns-then-e-lt3 c).Start, l2 (goal.at.returns-then-e-lt3 c).Else-e-lt2, q2 (goal.at.returns-then-e-lt3 c).After-wide_space ∙ ne_eqb _ 2 c.if-wide_space-eq2.false, lt-ltb c.args.e 3 c.if-e-lt3.true)
-
-pub wide_space-requires-2 : goal.wide_space-requires-2
-wide_space-requires-2 c = omega arith
 
 pub returns-then-wide_space-eq3 : goal.returns-then-wide_space-eq3
 unfolding space_before

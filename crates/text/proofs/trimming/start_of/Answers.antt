@@ -13,12 +13,6 @@ use Rattle.text.proofs.WideLaws.{blanks_gone, wide_gone, none_gone}
 use Rattle.text.proofs.trimming.start_of.Goals as goal
 use Rattle.text.proofs.trimming.start_of.Goals.{Else-k-eq0}
 
-pub loop-i-init : goal.loop-i-init
-loop-i-init c = (refl, omega arith)
-
-pub bounds-s-i : goal.bounds-s-i
-bounds-s-i c = omega arith
-
 pub past_blank-i-requires : goal.past_blank-i-requires
 past_blank-i-requires c = (c.loop-i-test.true, sym c.is_blank.ensures ∙ c.if-is_blank.true)
 

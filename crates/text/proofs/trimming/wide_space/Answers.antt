@@ -40,9 +40,6 @@ returns-then-a-gt227 c = sym (wide_none_at c.args.s.now c.args.i (omega arith) (
 pub returns-then-not-is_tail : goal.returns-then-not-is_tail
 returns-then-not-is_tail c = sym (three (goal.at.returns-then-not-is_tail c).After-is_tail-2 ∙ rw (sym (tails (goal.at.returns-then-not-is_tail c).After-is_tail-2) ∙ c.if-not-is_tail.true))
 
-pub overflow_sub-a : goal.overflow_sub-a
-overflow_sub-a c = omega arith
-
 pub join-requires : goal.join-requires
 join-requires c = (omega (arith, c.if-a-gt227.false), (both c).0)
 
