@@ -299,7 +299,8 @@ says_first : (n : List ℕ) → says n ≡ (if same (str "script") n then Skippe
 unfolding says table find
 says_first n = go (same (str "script") n) (same (str "style") n)
   where
-    go : (a b : Bool) → case (if a then some (Skipped Script) else if b then some (Skipped Style) else lookup writing n) (Writes Other) (λ x. x) ≡ (if a then Skipped Script else if b then Skipped Style else case (lookup writing n) (Writes Other) (λ x. x))
+    go : (a b : Bool) → case (if a then some (Skipped Script) else if b then some (Skipped Style) else lookup writing n) (Writes Other) (λ x. x) ≡
+        (if a then Skipped Script else if b then Skipped Style else case (lookup writing n) (Writes Other) (λ x. x))
     go true b = refl
     go false true = refl
     go false false = refl

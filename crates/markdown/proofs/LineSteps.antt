@@ -31,7 +31,8 @@ use Rattle.markdown.specs.declared.writer.State.{State}
 use Rattle.markdown.proofs.PartLaws.{part_length}
 use Rattle.markdown.proofs.RunLaws.{empty_chars, not_empty}
 use Rattle.markdown.proofs.StoreLaws.{start_low, kind_short}
-use Rattle.markdown.proofs.StateLaws.{moved_safe, safe_inside, text_length, text_none, given_small, block_small, plain_step, steps_then, holds_continued, spans_length, part_inside, steps_as, then_plain, then_item}
+use Rattle.markdown.proofs.StateLaws.{moved_safe, safe_inside, text_length, text_none, given_small, block_small, plain_step, steps_then, holds_continued, spans_length, part_inside}
+use Rattle.markdown.proofs.StateLaws.{steps_as, then_plain, then_item}
 use Rattle.markdown.proofs.ShapeLaws.{text_rule, text_row, text_other}
 use Rattle.markdown.proofs.ParagraphLaws.{stored_text}
 

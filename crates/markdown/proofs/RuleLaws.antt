@@ -83,7 +83,9 @@ ruled_run = run_same ruled (all ruled) (λ x s e. rw e)
 
 -- a mark is ruled
 pub mark_ruled : (x : ℕ) → marks x ≡ true → ruled x ≡ true
-mark_ruled x e = or_elim (eqb x 45) _ (λ a. rw a) (or_elim (eqb x 42) _ (λ a. or_right (eqb x 45) _ (rw a)) (or_elim (eqb x 95) false (λ a. or_right (eqb x 45) _ (or_right (eqb x 42) _ (rw a))) false_true)) e
+mark_ruled x e =
+    or_elim (eqb x 45) _ (λ a. rw a) (or_elim (eqb x 42) _ (λ a. or_right (eqb x 45) _ (rw a))
+    (or_elim (eqb x 95) false (λ a. or_right (eqb x 45) _ (or_right (eqb x 42) _ (rw a))) false_true)) e
 
 -- the answer at the first mark
 pub rule_marked : (s : List ℕ) (t : Bool) → 3 ≤ length s → any marks s ≡ true → t ≡ all ruled s → t ≡ is_rule (chars s)

@@ -87,7 +87,9 @@ spread false false false w = refl
 pub bullet_at : (line : List ℕ) (i : ℕ) → i < length line
     → ((eqb (get_or line i 0) 45 || eqb (get_or line i 0) 42) || eqb (get_or line i 0) 43) && eqb (get_or line (i + 1) 0) 32
     ≡ starts "- " (drop i line) || starts "* " (drop i line) || starts "+ " (drop i line)
-bullet_at line i l = rw (drop_next line i l, starts_byte line (i + 1) 32 (omega arith)) (spread (eqb (get_or line i 0) 45) (eqb (get_or line i 0) 42) (eqb (get_or line i 0) 43) (eqb (get_or line (i + 1) 0) 32))
+bullet_at line i l =
+    rw (drop_next line i l, starts_byte line (i + 1) 32 (omega arith))
+    (spread (eqb (get_or line i 0) 45) (eqb (get_or line i 0) 42) (eqb (get_or line i 0) 43) (eqb (get_or line (i + 1) 0) 32))
 
 module _ (line : List ℕ) (at : ℕ) (e : at ≡ start_of line) where
   marker_in : at ≤ length line
@@ -97,7 +99,8 @@ module _ (line : List ℕ) (at : ℕ) (e : at ≡ start_of line) where
   unfolding list_marker start_of
   marker_eq =
       let q : chars (drop at line) ≡ drop_while is_space (chars line) = ap chars (ap (λ (n : ℕ). drop n line) e ∙ drop_start line) ∙ chars_start line in
-      let s = simp (length-append) at (ap length (sym (encode_append (take_while is_space (chars line)) (drop_while is_space (chars line))) ∙ ap encode (run_split is_space (chars line)) ∙ encode_chars line)) in
+      let s = simp (length-append) at (ap length (sym (encode_append (take_while is_space (chars line)) (drop_while is_space (chars line)))
+      ∙ ap encode (run_split is_space (chars line)) ∙ encode_chars line)) in
       let n : size (take_while is_space (chars line)) ≡ at = omega (arith, size_encode (take_while is_space (chars line)), e) in
       rw (n, q)
 
@@ -125,7 +128,12 @@ module _ (line : List ℕ) (at : ℕ) (e : at ≡ start_of line) where
     bullet_eq : marker_at at (chars s) ≡ some (marked (at / 2) (str "•") (drop 2 (chars s)))
     unfolding marker_at
     bullet_eq =
-        rw (starts_chars (45 ∷ 32 ∷ []) s (ascii_two 45 32 (omega arith) (omega arith)), starts_chars (42 ∷ 32 ∷ []) s (ascii_two 42 32 (omega arith) (omega arith)), starts_chars (43 ∷ 32 ∷ []) s (ascii_two 43 32 (omega arith) (omega arith)), b)
+        rw (
+          starts_chars (45 ∷ 32 ∷ []) s (ascii_two 45 32 (omega arith) (omega arith)),
+          starts_chars (42 ∷ 32 ∷ []) s (ascii_two 42 32 (omega arith) (omega arith)),
+          starts_chars (43 ∷ 32 ∷ []) s (ascii_two 43 32 (omega arith) (omega arith)),
+          b,
+        )
 
     pub bullet_inside : Inside line (at + 2) (length line)
     bullet_inside = record { order = bullet_size; bound = omega arith }

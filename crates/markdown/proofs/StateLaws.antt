@@ -151,7 +151,9 @@ module _ (md work out₀ out : List ℕ) (q : Reader) (s : State) (v : Holds md 
             ∙ ap (λ (j : ℕ). sets (sets out₀ 0 E₀) j (encode_block b')) (sym n)
             ∙ sym (sets_append out₀ 0 E₀ (encode_block b'))
             ∙ ap (sets out₀ 0) (sym (blocks_last b' w.before) ∙ ap (λ (l : List Block). encode_blocks (reverse l)) (sym r));
-        end = g.1 ∙ sym (ap (λ (l : List Block). length (encode_blocks (reverse l))) r ∙ ap length (blocks_last b' w.before) ∙ length-append E₀ (encode_block b') ∙ ap (λ (j : ℕ). j + length (encode_block b')) (sym (zero-add (length E₀)) ∙ n));
+        end =
+            g.1 ∙ sym (ap (λ (l : List Block). length (encode_blocks (reverse l))) r ∙ ap length (blocks_last b' w.before) ∙ length-append E₀ (encode_block b')
+            ∙ ap (λ (j : ℕ). j + length (encode_block b')) (sym (zero-add (length E₀)) ∙ n));
         last =
             subst (λ (t : Bool). LastIs t bs (continued_after s more)) (sym i)
             (record {

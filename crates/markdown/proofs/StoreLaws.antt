@@ -77,7 +77,12 @@ module _
 pub block_length : (b : Block) → length (encode_block b) ≡ 1 + (length (encode_kind b.kind) + length (counted b.spans))
 unfolding encode_block
 block_length b =
-    omega (arith, length-append (encode_kind b.kind ++ encode_count (length b.spans)) (encode_spans b.spans), length-append (encode_kind b.kind) (encode_count (length b.spans)), length-append (encode_count (length b.spans)) (encode_spans b.spans))
+    omega (
+      arith,
+      length-append (encode_kind b.kind ++ encode_count (length b.spans)) (encode_spans b.spans),
+      length-append (encode_kind b.kind) (encode_count (length b.spans)),
+      length-append (encode_count (length b.spans)) (encode_spans b.spans),
+    )
 
 pub block_stored : (b : Block) (out₀ out₁ out₂ : List ℕ) (at fields : ℕ) → out₁ ≡ sets out₀ (at + 1) (encode_kind b.kind)
     → at + 1 + length (encode_kind b.kind) ≡ fields

@@ -8,7 +8,8 @@ use lib.ListN.{length}
 use Rattle.text.specs.Utf8.{encode, size, Scalars, IsScalar, utf8}
 use Rattle.text.proofs.Utf8.{utf8_1, utf8_2, utf8_3, utf8_4, ranges, top}
 use Rattle.records.specs.Blocks.{Span, Kind, heading, paragraph, item, Block}
-use Rattle.records.specs.Format.{le16, le32, bit, non_empty, text_form, encode_span, encode_spans, kind_bits, encode_kind, encode_count, encode_block, encode_blocks, WfSpan, WfSpans, WfKind, WfBlock, WfBlocks}
+use Rattle.records.specs.Format.{le16, le32, bit, non_empty, text_form, encode_span, encode_spans, kind_bits, encode_kind, encode_count, encode_block, encode_blocks, WfSpan}
+use Rattle.records.specs.Format.{WfSpans, WfKind, WfBlock, WfBlocks}
 use Rattle.records.specs.Decode.{Bytes}
 use Rattle.records.proofs.Markers.{marker_scalars, marker_short}
 
@@ -77,8 +78,11 @@ unfolding encode_block
 bytes_block b w =
     let k = bytes_kind b.kind w.kind in
     let d = bit_small (non_empty b.spans) 8 in
-    let l : kind_bits b.kind ≤ 6 = k.0 in
-    (omega arith, bytes_append (encode_kind b.kind ++ encode_count (length b.spans)) (encode_spans b.spans) (bytes_append (encode_kind b.kind) (encode_count (length b.spans)) k.1 (bytes_count (length b.spans))) (bytes_spans b.spans w.spans))
+    let l : kind_bits b.kind ≤ 6 = k.0 in (
+      omega arith,
+      bytes_append (encode_kind b.kind ++ encode_count (length b.spans)) (encode_spans b.spans)
+          (bytes_append (encode_kind b.kind) (encode_count (length b.spans)) k.1 (bytes_count (length b.spans))) (bytes_spans b.spans w.spans),
+    )
 
 -- every record string consists of bytes
 pub records_are_bytes : (bs : List Block) → WfBlocks bs → Bytes (encode_blocks bs)

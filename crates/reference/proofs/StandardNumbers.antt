@@ -96,7 +96,9 @@ pub changed : (v : ℕ) → (end_state v ≡ v → ⊥) → no_number v ≡ true
 changed v n = ⊎_elim (λ e. e) (λ e. absurd (n (number_yes v e).stays)) (decide (no_number v))
 
 pub plain_is : (v : ℕ) → plain v ≡ (if no_number v then none else some v)
-plain_is v = ⊎_elim (λ e. rw (number_no v e) (sym (ap (λ (t : Bool). if t then none else some v) e))) (λ e. rw (number_yes v e).is (sym (ap (λ (t : Bool). if t then none else some v) e))) (decide (no_number v))
+plain_is v =
+    ⊎_elim (λ e. rw (number_no v e) (sym (ap (λ (t : Bool). if t then none else some v) e)))
+    (λ e. rw (number_yes v e).is (sym (ap (λ (t : Bool). if t then none else some v) e))) (decide (no_number v))
 
 -- ---- digits
 module _ (value : ℕ → Option ℕ) (radix : ℕ) (h : (c : ℕ) → value c ≡ (ensure (ltb (digit c) radix) >>= λ _. some (digit c))) where

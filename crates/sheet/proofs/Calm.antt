@@ -90,7 +90,9 @@ safe_runs (run k t ∷ rs) =
 safe_row : (r : Row) → Safe (written_row r)
 safe_row (head n l) = safe_append (repeat n "#") (32 ∷ written_runs l) (safe_mild (repeat n "#") (all_hashes mild mild_marks n)) (safe_cons 32 (written_runs l) refl (safe_runs l))
 safe_row (text l) = safe_runs l
-safe_row (item d n l) = safe_append (repeat d "  ") (lead n ++ written_runs l) (safe_mild (repeat d "  ") (all_blanks mild mild_marks d)) (safe_append (lead n) (written_runs l) (safe_mild (lead n) (all_lead mild mild_marks n)) (safe_runs l))
+safe_row (item d n l) =
+    safe_append (repeat d "  ") (lead n ++ written_runs l) (safe_mild (repeat d "  ") (all_blanks mild mild_marks d))
+    (safe_append (lead n) (written_runs l) (safe_mild (lead n) (all_lead mild mild_marks n)) (safe_runs l))
 
 safe_rows : (rs : List Row) → Safe (joined (str "\n") (map written_row rs))
 unfolding joined

@@ -16,8 +16,10 @@ use Rattle.text.proofs.Tests.{false_true}
 use Rattle.sheet.specs.Reading.{◌<|>◌, strip, many}
 use Rattle.sheet.specs.Tree.{Kind, plain, strong, em, both, code, Run, run, Mark, ul, ol, Items, Item, Block, heading, list}
 use Rattle.sheet.specs.Grammar as G
-use Rattle.sheet.specs.Grammar.{NL, Char, Many, stop, more, Text, IsRun, is_run, Line, ThenNL, IsItem, is_alone, is_with, ListOf, IsList, IsBlock, is_heading, is_para, IsPage, shown, singles, first_is, fits, apart, opens, closes, opens_h, closes_h, before, after}
-use Rattle.sheet.specs.Reader.{Answer, nl?, own, char, text, opening, kind, one_run, line, then_nl, item, marked, list_of, read_list, digit, closed_by, headed, read_heading, read_para, block, read_page, referred}
+use Rattle.sheet.specs.Grammar.{NL, Char, Many, stop, more, Text, IsRun, is_run, Line, ThenNL, IsItem, is_alone, is_with, ListOf, IsList, IsBlock, is_heading, is_para, IsPage}
+use Rattle.sheet.specs.Grammar.{shown, singles, first_is, fits, apart, opens, closes, opens_h, closes_h, before, after}
+use Rattle.sheet.specs.Reader.{Answer, nl?, own, char, text, opening, kind, one_run, line, then_nl, item, marked, list_of, read_list, digit, closed_by, headed, read_heading}
+use Rattle.sheet.specs.Reader.{read_para, block, read_page, referred}
 use Rattle.sheet.proofs.Conditions.{neat_of, apart_rest}
 use Rattle.sheet.proofs.ReadingLaws.{alt_left, alt_right, strip_append, front, many_stop, many_more}
 use Rattle.sheet.proofs.Sound.{Listed}

@@ -7,7 +7,8 @@ use mathlib.Core.List.{List, [], ◌∷◌, ◌++◌}
 use Rattle.text.specs.Words.{str}
 use Rattle.sheet.specs.Tree.{Run, Mark, Items, Item, cons, items, Block, heading, para, list}
 use Rattle.sheet.specs.Grammar as G
-use Rattle.sheet.specs.Grammar.{opens, opens_h, closes, closes_h, before, after, NL, Char, Many, stop, more, IsRun, is_run, Line, ThenNL, IsItem, is_alone, is_with, IsList, IsBlock, is_heading, is_para, IsPage}
+use Rattle.sheet.specs.Grammar.{opens, opens_h, closes, closes_h, before, after, NL, Char, Many, stop, more, IsRun, is_run, Line, ThenNL, IsItem, is_alone, is_with, IsList}
+use Rattle.sheet.specs.Grammar.{IsBlock, is_heading, is_para, IsPage}
 use Rattle.sheet.specs.Written.{Row, item, rows_from}
 
 -- the rows of a list: items only, at most 8 deep

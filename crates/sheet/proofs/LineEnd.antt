@@ -77,7 +77,8 @@ run_ended (is_run {t = t} em T g) f o = subst Ended (wrapped (str "*") t o) (sta
 run_ended (is_run {t = t} both T g) f o = subst Ended (wrapped (str "***") t o) (star_ended _)
 run_ended (is_run {t = t} code T g) f o = subst Ended (wrapped (str "`") t o) (tick_ended _)
 
-ended_step : {s m : List ℕ} (x : Run) (rs : List Run) → IsRun s x m → (last_no_blank rs ≡ true → (o : List ℕ) → Ended (reverse_aux (written_runs rs) o)) → last_no_blank (x ∷ rs) ≡ true → (o : List ℕ) → Ended (reverse_aux (written_runs (x ∷ rs)) o)
+ended_step : {s m : List ℕ} (x : Run) (rs : List Run) → IsRun s x m → (last_no_blank rs ≡ true → (o : List ℕ) → Ended (reverse_aux (written_runs rs) o)) →
+    last_no_blank (x ∷ rs) ≡ true → (o : List ℕ) → Ended (reverse_aux (written_runs (x ∷ rs)) o)
 unfolding last_no_blank written_runs
 ended_step (run k t) [] h ih f o = subst (λ (x : List ℕ). Ended (reverse_aux x o)) (sym (append-nil (written_run (run k t)))) (run_ended h f o)
 ended_step (run k t) (run l u ∷ rs) h ih f o = subst Ended (sym (reverse_aux-append (written_run (run k t)) (written_runs (run l u ∷ rs)) o)) (ih f (reverse_aux (written_run (run k t)) o))

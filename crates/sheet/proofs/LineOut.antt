@@ -74,7 +74,9 @@ Writes l s c r w v = Low (reverse_aux w v) → loop 0 s c ≡ loop 0 r (hold l (
 
 -- a run in tags
 module _ (l o : List ℕ) (b : Bool) (v : List ℕ) (h : Ready l (st l o b) v) (s t m : List ℕ) where
-  wrapped_out : (ot ct sg : List ℕ) (q : Known s t (ct ++ m)) → (Low (ran sg t v) → loop 0 (ot ++ (q.from.raw ++ (ct ++ m))) (st l o b) ≡ loop 0 m (hold l (ran sg t v))) → Writes l (ot ++ s) (st l o b) m (sg ++ (escaped t ++ sg)) v
+  wrapped_out : (ot ct sg : List ℕ) (q : Known s t (ct ++ m)) →
+      (Low (ran sg t v) → loop 0 (ot ++ (q.from.raw ++ (ct ++ m))) (st l o b) ≡ loop 0 m (hold l (ran sg t v))) →
+      Writes l (ot ++ s) (st l o b) m (sg ++ (escaped t ++ sg)) v
   wrapped_out ot ct sg q f =
       subst (λ (s : List ℕ). Writes l (ot ++ s) (st l o b) m (sg ++ (escaped t ++ sg)) v) (sym q.from.is_raw)
       (subst (λ (x : List ℕ). Low x → loop 0 (ot ++ (q.from.raw ++ (ct ++ m))) (st l o b) ≡ loop 0 m (hold l x)) (wrapped sg t v) f)
@@ -87,7 +89,8 @@ module _ (l o : List ℕ) (b : Bool) (v : List ℕ) (h : Ready l (st l o b) v) (
   tags_out code n q f = wrapped_out (str "<code>") (str "</code>") (str "`") q (run_code l o b v q.from.raw t m h q.from.source q.is_singly f)
 
 -- a plain run, by what its text does
-plain_out : (l s : List ℕ) (c : State) (t v m : List ℕ) (q : Known s t m) → (Low (reverse_aux (escaped t) v) → loop 0 (q.from.raw ++ m) c ≡ loop 0 m (hold l (reverse_aux (escaped t) v))) → Writes l s c m (written_run (run plain t)) v
+plain_out : (l s : List ℕ) (c : State) (t v m : List ℕ) (q : Known s t m) →
+    (Low (reverse_aux (escaped t) v) → loop 0 (q.from.raw ++ m) c ≡ loop 0 m (hold l (reverse_aux (escaped t) v))) → Writes l s c m (written_run (run plain t)) v
 plain_out l s c t v m q f =
     subst (λ (s : List ℕ). Writes l s c m (escaped t ++ []) v) (sym q.from.is_raw)
     (subst (λ (w : List ℕ). Low (reverse_aux w v) → loop 0 (q.from.raw ++ m) c ≡ loop 0 m (hold l (reverse_aux w v))) (sym (append-nil (escaped t))) f)

@@ -151,7 +151,8 @@ tail_of {r' = r'} G.no_nl e = subst Tail (sym e) (tag r')
 tail_of {r' = r'} G.nl e = subst (λ (r : List ℕ). Tail (10 ∷ r)) (sym e) (nl_tag r')
 
 -- into an item: its line can start
-li_st : (m : Mark) (k : ℕ) (l y : List ℕ) → S.item (place m (suc k) ∷ l) (st (place m (suc k) ∷ l) y false) ≡ st (place m (suc (suc k)) ∷ l) (reverse_aux (repeat (length l) "  " ++ lead (place m (suc k))) y) false
+li_st : (m : Mark) (k : ℕ) (l y : List ℕ) → S.item (place m (suc k) ∷ l) (st (place m (suc k) ∷ l) y false) ≡ st (place m (suc (suc k)) ∷ l)
+    (reverse_aux (repeat (length l) "  " ++ lead (place m (suc k))) y) false
 unfolding S.item
 li_st ul k l y = refl
 li_st ol k l y = ap (λ (w : List ℕ). st (suc (suc k) ∷ l) (reverse_aux w y) false) (append_assoc (repeat (length l) "  ") (decimal (suc k)) (str ". "))
@@ -226,7 +227,8 @@ then_nl : {s r r' r'' : List ℕ} (l : List ℕ) (p p' : ℕ) (x : List ℕ) (b 
 then_nl l p p' x b v n e (stopped z) = stopped z
 then_nl l p p' x b v n e (reached x' b' h f a) = let g = nl_out (p' ∷ l) x' b' n e in reached x' g.0 h (f ∙ g.1 h) a
 
-did_before : {s s' r : List ℕ} (l : List ℕ) (p p₁ p' : ℕ) (x x₁ : List ℕ) (b b₁ : Bool) (v v' : List ℕ) → loop 0 s (st (p ∷ l) x b) ≡ loop 0 s' (st (p₁ ∷ l) x₁ b₁) → v ≡ v' → Did s' r l p₁ p' x₁ b₁ v → Did s r l p p' x b v'
+did_before : {s s' r : List ℕ} (l : List ℕ) (p p₁ p' : ℕ) (x x₁ : List ℕ) (b b₁ : Bool) (v v' : List ℕ) →
+    loop 0 s (st (p ∷ l) x b) ≡ loop 0 s' (st (p₁ ∷ l) x₁ b₁) → v ≡ v' → Did s' r l p₁ p' x₁ b₁ v → Did s r l p p' x b v'
 did_before l p p₁ p' x x₁ b b₁ v v' e y (stopped z) = stopped (stopped_as y (stopped_from e z))
 did_before l p p₁ p' x x₁ b b₁ v v' e y (reached x' b' h f a) = reached x' b' h (e ∙ f) (subst (After x') y a)
 
@@ -254,13 +256,16 @@ module _ (d : ℕ) (L : List ℕ → Mark → Items → List ℕ → Type 0) (li
   items_start (more (G.then (is_with ln n q n') k) ms) r' e = (_, refl)
 
   -- an item and those after it
-  items_step : {s s₁ s₂ r : List ℕ} (it : Item) (its : List Item) → IsItem L s it s₁ → NL s₁ s₂ → (s' : List ℕ) → s₂ ≡ 60 ∷ s' → Many (ThenNL (IsItem L)) s₂ its r → (m : Mark) (k : ℕ) (l x : List ℕ) (b : Bool) → length l + suc d ≤ 8 → begins 32 x ≡ false
-      → ((it' : Item) (its' : List Item) → its ≡ it' ∷ its' → (x : List ℕ) (b : Bool) → begins 32 x ≡ false → ItemsDone s₂ r l (place m (suc (suc k))) x b (rows_from (length l) m (suc (suc k)) (items its)))
+  items_step : {s s₁ s₂ r : List ℕ} (it : Item) (its : List Item) → IsItem L s it s₁ → NL s₁ s₂ → (s' : List ℕ) → s₂ ≡ 60 ∷ s' →
+      Many (ThenNL (IsItem L)) s₂ its r → (m : Mark) (k : ℕ) (l x : List ℕ) (b : Bool) → length l + suc d ≤ 8 → begins 32 x ≡ false
+      → ((it' : Item) (its' : List Item) → its ≡ it' ∷ its' → (x : List ℕ) (b : Bool) → begins 32 x ≡ false →
+      ItemsDone s₂ r l (place m (suc (suc k))) x b (rows_from (length l) m (suc (suc k)) (items its)))
       → ItemsDone s r l (place m (suc k)) x b (rows_from (length l) m (suc k) (items (it ∷ its)))
   items_step {s = s} it [] h n s' e (stop {s = r}) m k l x b c f ih =
       let g = item_out d L lists h m k l x b c f in
       let v = rowsr (own_row (length l) m (suc k) it ∷ sub_rows (length l) it) (nlx x) in
-      let z : own_row (length l) m (suc k) it ∷ sub_rows (length l) it ≡ rows_from (length l) m (suc k) (items (it ∷ [])) = sym (rows_cons (length l) m (suc k) it [] ∙ last_rows (length l) m (suc (suc k)) (own_row (length l) m (suc k) it ∷ sub_rows (length l) it)) in
+      let z : own_row (length l) m (suc k) it ∷ sub_rows (length l) it ≡ rows_from (length l) m (suc k) (items (it ∷ [])) =
+      sym (rows_cons (length l) m (suc k) it [] ∙ last_rows (length l) m (suc (suc k)) (own_row (length l) m (suc k) it ∷ sub_rows (length l) it)) in
       record {
         does = subst (λ (rs : List Row). Low (rowsr rs (nlx x)) → (p' : ℕ) × Did s r l (place m (suc k)) p' x b (rowsr rs (nlx x))) z
             (λ h. (place m (suc (suc k)), then_nl l (place m (suc k)) (place m (suc (suc k))) x b v n e (g.does h)));
@@ -290,7 +295,8 @@ module _ (d : ℕ) (L : List ℕ → Mark → Items → List ℕ → Type 0) (li
         rows_are = rows_cons (length l) m (suc k) it (it' ∷ its);
       }
 
-  items_out : {s r : List ℕ} {xs : List Item} → Many (ThenNL (IsItem L)) s xs r → (r' : List ℕ) → r ≡ 60 ∷ r' → (it : Item) (its : List Item) → xs ≡ it ∷ its → (m : Mark) (k : ℕ) (l x : List ℕ) (b : Bool) → length l + suc d ≤ 8 → begins 32 x ≡ false
+  items_out : {s r : List ℕ} {xs : List Item} → Many (ThenNL (IsItem L)) s xs r → (r' : List ℕ) → r ≡ 60 ∷ r' → (it : Item) (its : List Item) → xs ≡ it ∷ its →
+      (m : Mark) (k : ℕ) (l x : List ℕ) (b : Bool) → length l + suc d ≤ 8 → begins 32 x ≡ false
       → ItemsDone s r l (place m (suc k)) x b (rows_from (length l) m (suc k) (items xs))
   items_out stop r' e it its z m k l x b c f = let q : ◌≡◌ {A = ℕ} 0 1 = cc in absurd (omega arith)
   items_out (more {x = y} {xs = ys} (G.then h n) ms) r' e it its z m k l x b c f =
@@ -326,7 +332,8 @@ opens_at ul r = (_, refl)
 opens_at ol r = (_, refl)
 
 -- past the items, and the closing tag
-past_items : {s s' r : List ℕ} (m : Mark) (l x : List ℕ) (b : Bool) (p p' : ℕ) (x' : List ℕ) (b' : Bool) (v v' : List ℕ) → Ended v → v ≡ v' → loop 0 s (st l x b) ≡ loop 0 s' (st (p ∷ l) x' b') → Did s' (closes m ++ r) l p p' x' b' v → Left s r l x b v'
+past_items : {s s' r : List ℕ} (m : Mark) (l x : List ℕ) (b : Bool) (p p' : ℕ) (x' : List ℕ) (b' : Bool) (v v' : List ℕ) → Ended v → v ≡ v' →
+    loop 0 s (st l x b) ≡ loop 0 s' (st (p ∷ l) x' b') → Did s' (closes m ++ r) l p p' x' b' v → Left s r l x b v'
 past_items m l x b p p' x' b' v v' g y e (stopped z) = stopped (stopped_as y (stopped_from e z))
 past_items {r = r} m l x b p p' x' b' v v' g y e (reached x'' b'' h f a) =
     left (e ∙ f ∙ close_list m p' l x'' v b'' r h a g ∙ ap (λ (v : List ℕ). loop 0 r (leave l v)) y)

@@ -198,7 +198,8 @@ unfolding wr
 stopped_ends x [] v e h z = record { state = z.state; is = z.is; trails = inr z.out_is }
 stopped_ends x (b ∷ bs) v e h z = never_stopped (low_tail 10 (10 ∷ v) (subst Low (sym (full_gap v e)) (low_next b bs v h))) z
 
-after_block : {s m r : List ℕ} {bs : List Block} (w v : List ℕ) → Ended v → NL m r → Many (ThenNL IsBlock) r bs [] → Writes r bs v → Low (wr bs v) → Left s m [] (gap w) false v → Ends (loop 0 s (st [] (gap w) false)) (wr bs v)
+after_block : {s m r : List ℕ} {bs : List Block} (w v : List ℕ) → Ended v → NL m r → Many (ThenNL IsBlock) r bs [] → Writes r bs v → Low (wr bs v) →
+    Left s m [] (gap w) false v → Ends (loop 0 s (st [] (gap w) false)) (wr bs v)
 after_block {bs = bs} w v e n ms f h (stopped z) = stopped_ends _ bs v e h z
 after_block {m = m} w v e n ms f h (left g) = ends_from (g ∙ ap (λ (o : List ℕ). loop 0 m (st [] o false)) (full_gap v e)) (nl_blocks n ms v f h)
 

@@ -12,7 +12,8 @@ use Rattle.text.proofs.Laws.{utf8_size, size_append}
 use Rattle.text.proofs.Tests.{false_true}
 use Rattle.sheet.specs.Tree.{Kind, plain, strong, em, both, code, Run, run, Mark, ul, ol, Items, Item, items, Block, heading, para, list}
 use Rattle.sheet.specs.Grammar as G
-use Rattle.sheet.specs.Grammar.{NL, Char, Many, stop, more, Text, IsRun, is_run, Line, ThenNL, IsItem, is_alone, is_with, ListOf, IsList, IsBlock, is_heading, is_para, IsPage, concat, first_is, first_letter, before, after, opens, closes, opens_h, closes_h}
+use Rattle.sheet.specs.Grammar.{NL, Char, Many, stop, more, Text, IsRun, is_run, Line, ThenNL, IsItem, is_alone, is_with, ListOf, IsList, IsBlock, is_heading, is_para, IsPage}
+use Rattle.sheet.specs.Grammar.{concat, first_is, first_letter, before, after, opens, closes, opens_h, closes_h}
 use Rattle.sheet.specs.Written.{sign, written_run, written_runs, Row, place, rows_from, rows, written_row, joined, written_block, written}
 use Rattle.sheet.proofs.Conditions.{neat_of}
 use Rattle.sheet.proofs.WrittenSize.{size_run, size_item, size_head}

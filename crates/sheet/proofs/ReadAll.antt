@@ -63,7 +63,9 @@ unfolding rows read_lines
 read_block (a_heading {n} {l} lo g) h o ls =
     record {
       state = reader (Heading (min n 3) (map span l) ∷ o) [];
-      eq = ap (λ (r : Reader). read_lines r ls) (read_heading o (min n 3) (written_runs l) (omega arith) (omega arith) g.good ∙ ap (λ (s : List Span). reader (Heading (min n 3) s ∷ o) []) g.spans_are);
+      eq =
+          ap (λ (r : Reader). read_lines r ls) (read_heading o (min n 3) (written_runs l) (omega arith) (omega arith) g.good
+          ∙ ap (λ (s : List Span). reader (Heading (min n 3) s ∷ o) []) g.spans_are);
       flushed = flush_end (Heading (min n 3) (map span l) ∷ o);
     }
 read_block (a_para {l} g) h o ls =

@@ -34,7 +34,8 @@ tree =
     ∷ []
 
 read : read_page page ≡ some tree
-unfolding many is_space is_control special shown singles first_is last_is fits apart first_letter last_no_blank neat own char referred text kind one_run line item list_of read_list closed_by headed read_heading read_para block read_page
+unfolding many is_space is_control special shown singles first_is last_is fits apart first_letter last_no_blank neat own char referred text kind one_run line
+    item list_of read_list closed_by headed read_heading read_para block read_page
 read = refl
 
 abbrev markdown : List ℕ
@@ -52,5 +53,6 @@ pub by_theorem : blocks (written tree) ≡ blocks_of tree
 by_theorem = sheet_reads (page_sound page tree read) small
 
 pub by_computing : blocks markdown ≡ blocks_of tree
-unfolding index take_while drop_while trim_end_matches is_space utf8 size digits S.flush link code_step star_step link_step image_step step walk spans_at spans is_rule marker_at list_marker comment cleaned lines replace flush md_heading paragraph continuation read_text read_line read_lines blocks rows_from rows blocks_of
+unfolding index take_while drop_while trim_end_matches is_space utf8 size digits S.flush link code_step star_step link_step image_step step walk spans_at spans
+    is_rule marker_at list_marker comment cleaned lines replace flush md_heading paragraph continuation read_text read_line read_lines blocks rows_from rows blocks_of
 by_computing = refl

@@ -73,7 +73,8 @@ text_out l u t o v b (nl_tag s) r lo lv e =
     ∙ sym (nl_loop l d.out s d.space (low_hold l v lv))
 
 -- a plain run
-pub run_plain : (l u t v : List ℕ) {r : List ℕ} → Tail r → Raw u t → Low (reverse_aux (escaped t) v) → inline v ≡ true → singly (begins 32 v) t ≡ true → ends_with_digit v ≡ false → loop 0 (u ++ r) (hold l v) ≡ loop 0 r (hold l (reverse_aux (escaped t) v))
+pub run_plain : (l u t v : List ℕ) {r : List ℕ} → Tail r → Raw u t → Low (reverse_aux (escaped t) v) → inline v ≡ true → singly (begins 32 v) t ≡ true →
+    ends_with_digit v ≡ false → loop 0 (u ++ r) (hold l v) ≡ loop 0 r (hold l (reverse_aux (escaped t) v))
 run_plain l u t v z r h i w d = text_out l u t _ _ _ z r (low_hold l v (low_front (escaped t) v h)) h (put_text l t true v i w d)
 
 -- marks

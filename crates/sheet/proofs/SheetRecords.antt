@@ -121,7 +121,14 @@ unfolding blocks_of written joined encode_blocks
 all_long [] E.none = omega arith
 all_long (b ∷ []) (E.one h e) = omega (arith, ap length (blocks_append (map block_of (rows b)) []), length-append (encode_blocks (map block_of (rows b))) (encode_blocks []), rows_long h)
 all_long (b ∷ c ∷ bs) (E.one h e) =
-    omega (arith, ap length (blocks_append (map block_of (rows b)) (blocks_of (c ∷ bs))), length-append (encode_blocks (map block_of (rows b))) (encode_blocks (blocks_of (c ∷ bs))), rows_long h, all_long (c ∷ bs) e, size_written b c bs)
+    omega (
+      arith,
+      ap length (blocks_append (map block_of (rows b)) (blocks_of (c ∷ bs))),
+      length-append (encode_blocks (map block_of (rows b))) (encode_blocks (blocks_of (c ∷ bs))),
+      rows_long h,
+      all_long (c ∷ bs) e,
+      size_written b c bs,
+    )
 
 pub sheet_records : {s : List ℕ} {t : List Block} → IsPage s t → length (encode_blocks (blocks_of t)) ≤ 11 * size (written t)
 sheet_records {t = t} p = all_long t (good_lines p)

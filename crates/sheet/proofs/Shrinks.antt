@@ -88,7 +88,8 @@ run_shrinks = shrinks IsRun one_run run_sound run_less
 pub items_shrink : (d : ℕ) → Shrinks (then_nl (item (read_list d)))
 items_shrink d =
     let I = IsItem (IsList d) in
-    shrinks (ThenNL I) (then_nl (item (read_list d))) (then_nl_sound I (item (read_list d)) (item_sound (IsList d) (read_list d) (read_list_sound d))) (then_less I (item_less (IsList d) (lists_less d)))
+    shrinks (ThenNL I) (then_nl (item (read_list d))) (then_nl_sound I (item (read_list d)) (item_sound (IsList d) (read_list d) (read_list_sound d)))
+    (then_less I (item_less (IsList d) (lists_less d)))
 
 pub blocks_shrink : Shrinks (then_nl block)
 blocks_shrink = shrinks (ThenNL IsBlock) (then_nl block) (then_nl_sound IsBlock block block_sound) (then_less IsBlock block_less)

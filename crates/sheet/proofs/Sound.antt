@@ -11,8 +11,10 @@ use Rattle.text.specs.Words.{str, ◌>>=◌, case}
 use Rattle.sheet.specs.Reading.{◌<|>◌, strip, many}
 use Rattle.sheet.specs.Tree.{Kind, plain, strong, em, both, code, Run, Mark, ul, ol, Items, Item, alone, items, Block, list}
 use Rattle.sheet.specs.Grammar as G
-use Rattle.sheet.specs.Grammar.{NL, Char, Many, stop, more, Text, IsRun, is_run, Line, ThenNL, IsItem, is_alone, is_with, ListOf, IsList, IsBlock, is_heading, is_para, IsPage, shown, fits, neat, opens, closes, closes_h, before, after}
-use Rattle.sheet.specs.Reader.{Answer, nl?, own, means, referred, char, text, opening, kind, one_run, line, then_nl, with_list, item, some_items, marked, list_of, read_list, digit, closed_by, headed, read_heading, read_para, block, at_end, read_page}
+use Rattle.sheet.specs.Grammar.{NL, Char, Many, stop, more, Text, IsRun, is_run, Line, ThenNL, IsItem, is_alone, is_with, ListOf, IsList, IsBlock, is_heading, is_para, IsPage}
+use Rattle.sheet.specs.Grammar.{shown, fits, neat, opens, closes, closes_h, before, after}
+use Rattle.sheet.specs.Reader.{Answer, nl?, own, means, referred, char, text, opening, kind, one_run, line, then_nl, with_list, item, some_items, marked, list_of, read_list, digit}
+use Rattle.sheet.specs.Reader.{closed_by, headed, read_heading, read_para, block, at_end, read_page}
 use Rattle.text.specs.Chars.{within}
 use Rattle.text.proofs.Tests.{within_true, then_some}
 use Rattle.sheet.proofs.ReadingLaws.{none_some, alt_inv, strip_inv, ensure_inv}
@@ -57,7 +59,10 @@ own_sound (c ∷ s) y e =
 pub char_sound : Sound Char char
 unfolding char referred
 char_sound s y e =
-    ⊎_elim (own_sound s y) (λ e. ⊎_elim (by " " " " (λ r. G.blank)) (λ e. ⊎_elim (by "<" "&lt;" (λ r. G.&lt)) (λ e. ⊎_elim (by "&" "&amp;" (λ r. G.&amp)) (λ e. ⊎_elim (by ">" "&gt;" (λ r. G.&gt)) (by "\"" "&quot;" (λ r. G.&quot)) (alt_inv (means ">" "&gt;" s) _ e)) (alt_inv (means "&" "&amp;" s) _ e)) (alt_inv (means "<" "&lt;" s) _ e)) (alt_inv (means " " " " s) _ e)) (alt_inv (own s) _ e)
+    ⊎_elim (own_sound s y) (λ e. ⊎_elim (by " " " " (λ r. G.blank))
+    (λ e. ⊎_elim (by "<" "&lt;" (λ r. G.&lt)) (λ e. ⊎_elim (by "&" "&amp;" (λ r. G.&amp))
+    (λ e. ⊎_elim (by ">" "&gt;" (λ r. G.&gt)) (by "\"" "&quot;" (λ r. G.&quot)) (alt_inv (means ">" "&gt;" s) _ e)) (alt_inv (means "&" "&amp;" s) _ e))
+    (alt_inv (means "<" "&lt;" s) _ e)) (alt_inv (means " " " " s) _ e)) (alt_inv (own s) _ e)
   where
     by : (q p : Prim.Native.String.String) → ((r : List ℕ) → Char (str p ++ r) (str q) r) → means q p s ≡ some y → Char s y.0 y.1
     by q p h e =
@@ -71,7 +76,8 @@ text_sound s = G.text (many_sound Char char char_sound (length s) s)
 kind_inv : (s : List ℕ) (y : Kind × List ℕ) → kind s ≡ some y → s ≡ before y.0 ++ y.1
 unfolding kind
 kind_inv s y e =
-    ⊎_elim (by both) (λ e. ⊎_elim (by strong) (λ e. ⊎_elim (by em) (λ e. ⊎_elim (by code) (by plain) (alt_inv (opening code s) _ e)) (alt_inv (opening em s) _ e)) (alt_inv (opening strong s) _ e)) (alt_inv (opening both s) _ e)
+    ⊎_elim (by both) (λ e. ⊎_elim (by strong) (λ e. ⊎_elim (by em) (λ e. ⊎_elim (by code) (by plain) (alt_inv (opening code s) _ e))
+    (alt_inv (opening em s) _ e)) (alt_inv (opening strong s) _ e)) (alt_inv (opening both s) _ e)
   where
     by : (k : Kind) → opening k s ≡ some y → s ≡ before y.0 ++ y.1
     by k e =
@@ -134,7 +140,8 @@ list_sound I read h s y e =
     let i = then_some (some_items x.0) _ m.2 in
     let c = then_some (strip (closes m.0.0) x.1) _ i.2 in
     let q = many_sound (ThenNL I) (then_nl read) (then_nl_sound I read h) (length s) s₁ in
-    gives (Listed (ListOf I)) c.2 (from (Listed (ListOf I)) {x = (m.0.0, i.0)} (marked_inv s m.0 m.1) (go m.0.0 m.0.1 c.0 x.0 i.0 i.1 (subst (Many (ThenNL I) s₁ x.0) (strip_inv (closes m.0.0) x.1 c.1) q)))
+    gives (Listed (ListOf I)) c.2 (from (Listed (ListOf I)) {x =
+    (m.0.0, i.0)} (marked_inv s m.0 m.1) (go m.0.0 m.0.1 c.0 x.0 i.0 i.1 (subst (Many (ThenNL I) s₁ x.0) (strip_inv (closes m.0.0) x.1 c.1) q)))
   where
     go : (m : Mark) (s r : List ℕ) (its : List Item) (t : Items) → some_items its ≡ some t → Many (ThenNL I) (nl? s) its (closes m ++ r) → ListOf I (opens m ++ s) m t r
     go m s r [] t e q = none_some e

@@ -18,11 +18,13 @@ use Rattle.html.specs.Calls.{converted as converted_page, with_buffers as page_b
 use Rattle.records.specs.Blocks.{Span, Block, Heading, Paragraph, Item}
 use Rattle.records.specs.Format.{encode_span, encode_spans, encode_block, encode_blocks}
 use Rattle.spans.specs.Spans.{link, code_step, star_step, link_step, image_step, step, flush, walk, spans_at, spans}
-use Rattle.markdown.specs.Blocks.{is_rule, marker_at, list_marker, comment as comment_here, cleaned, lines, replace, row, flush as flush_paragraph, heading, paragraph, continuation, read_text, read_line, read_lines, blocks}
+use Rattle.markdown.specs.Blocks.{is_rule, marker_at, list_marker, comment as comment_here, cleaned, lines, replace, row, flush as flush_paragraph, heading, paragraph}
+use Rattle.markdown.specs.Blocks.{continuation, read_text, read_line, read_lines, blocks}
 use Rattle.markdown.specs.Calls.{recorded as recorded_blocks, with_buffers as markdown_buffers, blocks_call}
 use Rattle.sheet.specs.Reading.{many}
 use Rattle.sheet.specs.Grammar.{shown as shown_char, singles, first_is, last_is, fits, apart, first_letter, last_no_blank, neat}
-use Rattle.sheet.specs.Reader.{own, referred, char as sheet_char, text as sheet_text, kind, one_run, line, item as sheet_item, list_of, read_list, closed_by, headed, read_heading, read_para, block as sheet_block, read_page}
+use Rattle.sheet.specs.Reader.{own, referred, char as sheet_char, text as sheet_text, kind, one_run, line, item as sheet_item, list_of, read_list, closed_by, headed, read_heading}
+use Rattle.sheet.specs.Reader.{read_para, block as sheet_block, read_page}
 use Rattle.sheet.specs.Written.{rows_from, rows, escaped, written_runs, joined, written}
 use Rattle.sheet.specs.Sheet.{small}
 use Rattle.sheet.specs.Calls.{sheet, Tested, no_sheet, sheet_call}
@@ -80,5 +82,12 @@ specimens =
     ∷ []
 
 pub specimens_hold : map (λ r. shown r.0) specimens ≡ map (λ r. r.1) specimens
-unfolding shown index take_while drop_while trim_end_matches is_space is_control is_scalar size utf8 decode starts3 starts4 char_of char scan chars is_utf8 cut digits digit number_digits some_digits from_str_radix names number_written number named reference unescaped unescape line_start block newline spaced marks special opens ends_with_digit escape put blank paused next put_all text tags tag_of list_changed item tag listed shown_tag skipped element inside words comment a_tag markup turn loop finish html_to_markdown converted_page page_buffers html_to_markdown_call encode_span encode_spans encode_block encode_blocks link code_step star_step link_step image_step step flush walk spans_at spans is_rule marker_at list_marker comment_here cleaned lines replace row flush_paragraph heading paragraph continuation read_text read_line read_lines blocks recorded_blocks markdown_buffers blocks_call many shown_char singles first_is last_is fits apart first_letter last_no_blank neat own sheet_char referred sheet_text kind one_run line sheet_item list_of read_list closed_by headed read_heading read_para sheet_block read_page rows_from rows escaped written_runs joined written small sheet sheet_call
+unfolding shown index take_while drop_while trim_end_matches is_space is_control is_scalar size utf8 decode starts3 starts4 char_of char scan chars is_utf8 cut
+    digits digit number_digits some_digits from_str_radix names number_written number named reference unescaped unescape line_start block newline spaced marks
+    special opens ends_with_digit escape put blank paused next put_all text tags tag_of list_changed item tag listed shown_tag skipped element inside words
+    comment a_tag markup turn loop finish html_to_markdown converted_page page_buffers html_to_markdown_call encode_span encode_spans encode_block encode_blocks
+    link code_step star_step link_step image_step step flush walk spans_at spans is_rule marker_at list_marker comment_here cleaned lines replace row
+    flush_paragraph heading paragraph continuation read_text read_line read_lines blocks recorded_blocks markdown_buffers blocks_call many shown_char singles
+    first_is last_is fits apart first_letter last_no_blank neat own sheet_char referred sheet_text kind one_run line sheet_item list_of read_list closed_by
+    headed read_heading read_para sheet_block read_page rows_from rows escaped written_runs joined written small sheet sheet_call
 specimens_hold = refl

@@ -90,6 +90,7 @@ refused_iff page = (λ e s h f. some_left s ((decode_iff page s).1 (h, f)) e, λ
     some_left : (s : List ℕ) → decode page ≡ some s → number (case (decode page) no_utf8 (λ s. case (sheet s) no_sheet (λ t. yes_sheet (size (written t)) (length (written t))))) ≡ 1 → ⊥
     some_left s d e = let z : ◌≡◌ {A = ℕ} 0 1 = sym (accepted (sheet s)) ∙ sym (rw d) ∙ e in omega arith
 
-    go : ((s : List ℕ) → Scalars s → encode s ≡ page → ⊥) → (o : Option (List ℕ)) → decode page ≡ o → number (case o no_utf8 (λ s. case (sheet s) no_sheet (λ t. yes_sheet (size (written t)) (length (written t))))) ≡ 1
+    go : ((s : List ℕ) → Scalars s → encode s ≡ page → ⊥) → (o : Option (List ℕ)) → decode page ≡ o →
+        number (case o no_utf8 (λ s. case (sheet s) no_sheet (λ t. yes_sheet (size (written t)) (length (written t))))) ≡ 1
     go h none d = refl
     go h (some s) d = let u = decode_sound page s d in absurd (h s u.0 u.1)

@@ -34,7 +34,9 @@ pages =
     ∷ []
 
 answers : map (λ (r : String × Tested). sheet_call (str r.0)) pages ≡ map (λ (r : String × Tested). r.1) pages
-unfolding pages sheet_call sheet small decode is_utf8 chars scan utf8_char char_of starts3 starts4 is_scalar is_space is_control utf8 size digits special many shown singles first_is last_is fits apart first_letter last_no_blank neat own char referred text kind one_run line item list_of read_list closed_by headed read_heading read_para block read_page rows_from rows escaped written_runs joined written
+unfolding pages sheet_call sheet small decode is_utf8 chars scan utf8_char char_of starts3 starts4 is_scalar is_space is_control utf8 size digits special many
+    shown singles first_is last_is fits apart first_letter last_no_blank neat own char referred text kind one_run line item list_of read_list closed_by headed
+    read_heading read_para block read_page rows_from rows escaped written_runs joined written
 answers = refl
 
 -- a byte that is no character

@@ -51,7 +51,8 @@ rows_snoc d m n [] (alone l) = let z : 0 + n ≡ n = omega arith in rw z
 rows_snoc d m n [] (with l k its) = let z : 0 + n ≡ n = omega arith in rw z (ap (λ (r : List Row). led_rows (item d (place m n) l ∷ r)) (append-nil (rows_from (suc d) k 1 its)))
 rows_snoc d m n (alone l ∷ xs) x =
     let z : length xs + suc n ≡ suc (length xs) + n = omega arith in
-    rw (rows_snoc d m (suc n) xs x, z) (sym (append_assoc (str "\n" ++ written_row (item d (place m n) l)) (led_rows (rows_from d m (suc n) (items xs))) (item_form d (place m (suc (length xs) + n)) x)))
+    rw (rows_snoc d m (suc n) xs x, z) (sym (append_assoc (str "\n" ++ written_row (item d (place m n) l)) (led_rows (rows_from d m (suc n) (items xs)))
+    (item_form d (place m (suc (length xs) + n)) x)))
 rows_snoc d m n (with l k its ∷ xs) x =
     let z : length xs + suc n ≡ suc (length xs) + n = omega arith in
     let a = rows_from (suc d) k 1 its in

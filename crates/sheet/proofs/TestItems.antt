@@ -133,7 +133,8 @@ module _ (v d : ℕ) (m : Mark) (page : List ℕ) (start : ℕ) where
         within = k.within g.within;
       }
 
-  pub items_end : {pos n : ℕ} {w : Count} (s : ItemsTo v d m page start pos n w) → item (read_list v) (from page pos) ≡ none → every (then_nl (item (read_list v))) (from page start) ≡ (s.read, from page pos)
+  pub items_end : {pos n : ℕ} {w : Count} (s : ItemsTo v d m page start pos n w) → item (read_list v) (from page pos) ≡ none →
+      every (then_nl (item (read_list v))) (from page start) ≡ (s.read, from page pos)
   items_end s e = to_stop (then_nl (item (read_list v))) s.to (rw e)
 
 -- ---- a list
@@ -154,7 +155,8 @@ closes_five : (b : Bool) → length (closes (mark_of b)) ≡ 5
 closes_five true = refl
 closes_five false = refl
 
-module _ (d : ℕ) (s : List ℕ) (h : 1 ≤ d) (m : Mark) (s₁ : List ℕ) (e : (marked ul s <|> marked ol s) ≡ some (m, s₁)) (s₂ : List ℕ) (f : nl? s₁ ≡ s₂) (xs : List Item) (s₃ : List ℕ) (g : every (then_nl (item (read_list (d - 1)))) s₂ ≡ (xs, s₃)) where
+module _ (d : ℕ) (s : List ℕ) (h : 1 ≤ d) (m : Mark) (s₁ : List ℕ) (e : (marked ul s <|> marked ol s) ≡ some (m, s₁)) (s₂ : List ℕ) (f : nl? s₁ ≡ s₂)
+    (xs : List Item) (s₃ : List ℕ) (g : every (then_nl (item (read_list (d - 1)))) s₂ ≡ (xs, s₃)) where
   list_end : Answer (Mark × Items)
   list_end = some_items xs >>= λ its. strip (closes m) s₃ >>= λ r. some ((m, its), r)
 
@@ -190,7 +192,8 @@ module _ (d : ℕ) (s : List ℕ) (h : 1 ≤ d) (m : Mark) (s₁ : List ℕ) (e 
       go [] n = absurd (n refl)
       go (x ∷ xs) n = rw q
 
-module _ (page : List ℕ) (at d : ℕ) (h : 1 ≤ d) (b : Bool) (o : Began page at b) (start : ℕ) (k : Skipped page (at + 4) start) {v pos n : ℕ} {w : Count} (s : ItemsTo (d - 1) v (mark_of b) page start pos n w) (e : item (read_list (d - 1)) (from page pos) ≡ none) where
+module _ (page : List ℕ) (at d : ℕ) (h : 1 ≤ d) (b : Bool) (o : Began page at b) (start : ℕ) (k : Skipped page (at + 4) start) {v pos n : ℕ} {w : Count}
+    (s : ItemsTo (d - 1) v (mark_of b) page start pos n w) (e : item (read_list (d - 1)) (from page pos) ≡ none) where
   all_items : every (then_nl (item (read_list (d - 1)))) (from page start) ≡ (s.read, from page pos)
   all_items = items_end (d - 1) v (mark_of b) page start s e
 

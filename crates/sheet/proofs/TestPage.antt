@@ -65,7 +65,8 @@ module _ (page : List ℕ) (start : ℕ) where
   unfolding weight size led
   blocks_none e h = record { read = []; to = to_none (then_nl block) (from page start); kept = e; within = h }
 
-  pub blocks_next : {pos next : ℕ} {w a b : Count} {pos' : ℕ} → BlocksTo page start pos w → Got block_form page pos (block (from page pos)) next a → Skipped page next pos' → b ≡ added w a → BlocksTo page start pos' b
+  pub blocks_next : {pos next : ℕ} {w a b : Count} {pos' : ℕ} → BlocksTo page start pos w → Got block_form page pos (block (from page pos)) next a →
+      Skipped page next pos' → b ≡ added w a → BlocksTo page start pos' b
   blocks_next {pos} {next} {w} {a} {b} {pos'} s g k f =
       let x = g.what in
       let xs = s.read in
@@ -134,7 +135,8 @@ module _ (bs : List Block) {w : Count} (e : w ≡ weight (led bs)) where
   judge : answer (judged w) ≡ told
   judge =
       ⊎_elim
-      (λ h. ⊎_elim (λ i. judge_yes (ltb-true (w.bytes - 2) 16000 h) (leb-true (w.chars - 2) 8000 i)) (λ i. judge_chars (ltb-true (w.bytes - 2) 16000 h) (leb-false (w.chars - 2) 8000 i)) (decide (leb (w.chars - 2) 8000)))
+      (λ h. ⊎_elim (λ i. judge_yes (ltb-true (w.bytes - 2) 16000 h) (leb-true (w.chars - 2) 8000 i))
+      (λ i. judge_chars (ltb-true (w.bytes - 2) 16000 h) (leb-false (w.chars - 2) 8000 i)) (decide (leb (w.chars - 2) 8000)))
       (λ h. judge_bytes (ltb-false (w.bytes - 2) 16000 h))
       (decide (ltb (w.bytes - 2) 16000))
 

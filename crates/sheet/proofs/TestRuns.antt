@@ -99,7 +99,8 @@ suits_fits T.code t = rw (first_blank t, last_blank t)
 
 -- ---- one run
 module _ (page : List ℕ) (at : ℕ) where
-  pub ran : (o : Answer Run) {k : T.Kind} {t : List ℕ} {n : ℕ} {l : Kind} {g : Gist} → o ≡ some (run k t, from page n) → l ≡ coded k → g ≡ gist t → at < n → n ≤ length page → Ran page at o (R.At n l g)
+  pub ran : (o : Answer Run) {k : T.Kind} {t : List ℕ} {n : ℕ} {l : Kind} {g : Gist} → o ≡ some (run k t, from page n) → l ≡ coded k → g ≡ gist t → at < n →
+      n ≤ length page → Ran page at o (R.At n l g)
   ran o {k} {t} {n} {l} {g} e f h p q =
       subst (λ (o : Answer Run). Ran page at o (R.At n l g)) (sym e) (n, cc, record { starts = refl; later = p; within = q })
 

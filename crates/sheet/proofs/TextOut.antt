@@ -160,7 +160,8 @@ module _ (l : List ℕ) where
   put_text [] f v i w d = refl
   put_text (x ∷ t) f v i w d = go (eqb x 32) refl (λ f v. put_text t f v) (and_true (cond (eqb x 32) (not (begins 32 v)) (not (is_space x))) (singly (eqb x 32) t) w)
     where
-      go : (b : Bool) → eqb x 32 ≡ b → ((f : Bool) (v : List ℕ) → Puts t f v) → (cond (eqb x 32) (not (begins 32 v)) (not (is_space x)) ≡ true) × (singly (eqb x 32) t ≡ true) → put_all f (x ∷ t) (hold v) ≡ hold (reverse_aux (escaped (x ∷ t)) v)
+      go : (b : Bool) → eqb x 32 ≡ b → ((f : Bool) (v : List ℕ) → Puts t f v) → (cond (eqb x 32) (not (begins 32 v)) (not (is_space x)) ≡ true) ×
+          (singly (eqb x 32) t ≡ true) → put_all f (x ∷ t) (hold v) ≡ hold (reverse_aux (escaped (x ∷ t)) v)
       go true e ih h =
           let n : not (begins 32 v) ≡ true = ap (λ (b : Bool). cond b (not (begins 32 v)) (not (is_space x))) (sym e) ∙ h.0 in
           let w' : singly true t ≡ true = ap (λ (b : Bool). singly b t) (sym e) ∙ h.1 in

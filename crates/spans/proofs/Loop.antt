@@ -210,7 +210,8 @@ module _ (B I : Bool) (line out₀ : List ℕ) (at₀ : ℕ) where
   all_pushed (suc n) w out W l p =
       let c : ℕ = get_or line w.i 0 in
       let cons : drop w.i line ≡ c ∷ drop (w.i + 1) line = drop_next line w.i (omega arith) in
-      let next = all_pushed n (push_of w 1) (set out (w.at + 5 + w.len) c) (one_more w out W (omega arith) (p w.i (omega arith) (omega arith))) (omega arith) (λ k a b. p k (omega arith) (omega arith)) in
+      let next = all_pushed n (push_of w 1) (set out (w.at + 5 + w.len) c) (one_more w out W (omega arith) (p w.i (omega arith) (omega arith))) (omega arith)
+      (λ k a b. p k (omega arith) (omega arith)) in
       let bytes : sets (set out (w.at + 5 + w.len) c) (w.at + 5 + (w.len + 1)) (take n (drop (w.i + 1) line)) ≡ sets out (w.at + 5 + w.len) (take (suc n) (drop w.i line)) =
       ap (λ (k : ℕ). sets (set out (w.at + 5 + w.len) c) k (take n (drop (w.i + 1) line))) (omega arith) ∙ sym (ap (λ (z : List ℕ). sets out (w.at + 5 + w.len) (take (suc n) z)) cons) in
       subst (λ (z : State). Walking B I line out₀ at₀ z (sets out (w.at + 5 + w.len) (take (suc n) (drop w.i line)))) (same_state (omega arith) refl (omega arith) refl refl refl)

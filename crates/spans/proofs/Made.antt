@@ -53,7 +53,13 @@ pub full_form : (b i : Bool) (s : Span) (k : ℕ) → length s.text ≡ suc k
     → record_of b i s ≡ span_map (s.bold || b) (s.italic || i) s.code true ∷ (le32 (suc k) ++ s.text)
 full_form b i s k = go s.text
   where
-    go : (t : List ℕ) → length t ≡ suc k → record_of b i (record { text = t; bold = s.bold; italic = s.italic; code = s.code }) ≡ span_map (s.bold || b) (s.italic || i) s.code true ∷ (le32 (suc k) ++ t)
+    go : (t : List ℕ) → length t ≡ suc k → record_of b i (record {
+      text =
+          t;
+      bold = s.bold;
+      italic = s.italic;
+      code = s.code;
+    }) ≡ span_map (s.bold || b) (s.italic || i) s.code true ∷ (le32 (suc k) ++ t)
     go [] e = absurd (omega arith)
     go (c ∷ t) e = ap (λ (n : ℕ). span_map (s.bold || b) (s.italic || i) s.code true ∷ (le32 n ++ (c ∷ t))) e
 

@@ -253,7 +253,8 @@ module _ (s : List ℕ) (j : ℕ) (lj : j ≤ length s) (cj : Clear s j) where
         let u : p + 2 - 1 ≡ p + 1 = omega arith in
         let v : p + 2 - 2 ≡ p = omega arith in
         let x : p + 2 - 3 ≡ p - 1 = omega arith in
-        over 2 (two_here (get_or s p 0) (get_or s (p + 1) 0) (get_or s (p + 2) 0) (get_or s (p + 3) 0) l m t) (omega arith) (omega arith) (behind_it 2 (rw u (omega (arith, low (p + 1) t))) (rw v m) (rw x (omega (arith, c.one))))
+        over 2 (two_here (get_or s p 0) (get_or s (p + 1) 0) (get_or s (p + 2) 0) (get_or s (p + 3) 0) l m t) (omega arith) (omega arith)
+        (behind_it 2 (rw u (omega (arith, low (p + 1) t))) (rw v m) (rw x (omega (arith, c.one))))
 
     three_step : 0xE0 ≤ get_or s p 0 → get_or s p 0 < 0xF0 → Same p
     three_step l m =
@@ -264,7 +265,8 @@ module _ (s : List ℕ) (j : ℕ) (lj : j ≤ length s) (cj : Clear s j) where
         let u : p + 3 - 1 ≡ p + 2 = omega arith in
         let v : p + 3 - 2 ≡ p + 1 = omega arith in
         let x : p + 3 - 3 ≡ p = omega arith in
-        over 3 (three_here (get_or s p 0) (get_or s (p + 1) 0) (get_or s (p + 2) 0) (get_or s (p + 3) 0) l m t t' (at_1 (room_1 k)).behind) (omega arith) (omega arith) (behind_it 3 (rw u (omega (arith, low (p + 2) t'))) (rw v (omega (arith, low (p + 1) t))) (rw x m))
+        over 3 (three_here (get_or s p 0) (get_or s (p + 1) 0) (get_or s (p + 2) 0) (get_or s (p + 3) 0) l m t t' (at_1 (room_1 k)).behind) (omega arith)
+        (omega arith) (behind_it 3 (rw u (omega (arith, low (p + 2) t'))) (rw v (omega (arith, low (p + 1) t))) (rw x m))
 
     four_step : 0xF0 ≤ get_or s p 0 → get_or s p 0 < 0xF5 → Same p
     four_step l m =
@@ -277,7 +279,8 @@ module _ (s : List ℕ) (j : ℕ) (lj : j ≤ length s) (cj : Clear s j) where
         let u : p + 4 - 1 ≡ p + 3 = omega arith in
         let v : p + 4 - 2 ≡ p + 2 = omega arith in
         let x : p + 4 - 3 ≡ p + 1 = omega arith in
-        over 4 (four_here (get_or s p 0) (get_or s (p + 1) 0) (get_or s (p + 2) 0) (get_or s (p + 3) 0) l m t t' t'' (at_1 (room_1 k)).behind) (omega arith) (omega arith) (behind_it 4 (rw u (omega (arith, low (p + 3) t''))) (rw v (omega (arith, low (p + 2) t'))) (rw x (omega (arith, low (p + 1) t))))
+        over 4 (four_here (get_or s p 0) (get_or s (p + 1) 0) (get_or s (p + 2) 0) (get_or s (p + 3) 0) l m t t' t'' (at_1 (room_1 k)).behind) (omega arith)
+        (omega arith) (behind_it 4 (rw u (omega (arith, low (p + 3) t''))) (rw v (omega (arith, low (p + 2) t'))) (rw x (omega (arith, low (p + 1) t))))
 
     step : Same p
     step =

@@ -36,7 +36,14 @@ module _ (a b : ℕ) (t : tail b ≡ true) where
       let k = ltb-true a 0xE1 e in
       ⊎_elim
       (λ f. let m = leb-true 0xA0 b f in simp (le-leb 0x38A0 AB (omega arith), within_below 0x3BE0 0x3BFF AB (omega arith), within_is 0xE0 0xE0 a l (omega arith), f, le-leb b 0xBF hi))
-      (λ f. let m = leb-false 0xA0 b f in simp (lt-leb 0x38A0 AB (omega arith), within_is 0xE0 0xE0 a l (omega arith), within_below 0xE1 0xEC a k, within_below 0xED 0xED a (omega arith), within_below 0xEE 0xEF a (omega arith), f))
+      (λ f. let m = leb-false 0xA0 b f in simp (
+        lt-leb 0x38A0 AB (omega arith),
+        within_is 0xE0 0xE0 a l (omega arith),
+        within_below 0xE1 0xEC a k,
+        within_below 0xED 0xED a (omega arith),
+        within_below 0xEE 0xEF a (omega arith),
+        f,
+      ))
       (decide (leb 0xA0 b)))
       (λ e.
       let k = ltb-false a 0xE1 e in
@@ -49,12 +56,35 @@ module _ (a b : ℕ) (t : tail b ≡ true) where
       (λ g.
       let n = ltb-true a 0xEE g in
       ⊎_elim
-      (λ q. let r = ltb-true b 0xA0 q in simp (j, within_below 0x3BE0 0x3BFF AB (omega arith), within_above 0xE0 0xE0 a l (omega arith), within_above 0xE1 0xEC a k (omega arith), within_is 0xED 0xED a m (omega arith), within_is 0x80 0x9F b lo (omega arith)))
-      (λ q. let r = ltb-false b 0xA0 q in simp (j, within_is 0x3BE0 0x3BFF AB (omega arith) (omega arith), within_above 0xE0 0xE0 a l (omega arith), within_above 0xE1 0xEC a k (omega arith), within_is 0xED 0xED a m (omega arith), within_below 0xEE 0xEF a n, within_above 0x80 0x9F b lo (omega arith)))
+      (λ q. let r = ltb-true b 0xA0 q in simp (
+        j,
+        within_below 0x3BE0 0x3BFF AB (omega arith),
+        within_above 0xE0 0xE0 a l (omega arith),
+        within_above 0xE1 0xEC a k (omega arith),
+        within_is 0xED 0xED a m (omega arith),
+        within_is 0x80 0x9F b lo (omega arith),
+      ))
+      (λ q. let r = ltb-false b 0xA0 q in simp (
+        j,
+        within_is 0x3BE0 0x3BFF AB (omega arith) (omega arith),
+        within_above 0xE0 0xE0 a l (omega arith),
+        within_above 0xE1 0xEC a k (omega arith),
+        within_is 0xED 0xED a m (omega arith),
+        within_below 0xEE 0xEF a n,
+        within_above 0x80 0x9F b lo (omega arith),
+      ))
       (decide (ltb b 0xA0)))
       (λ g.
       let n = ltb-false a 0xEE g in
-      simp (j, within_above 0x3BE0 0x3BFF AB (omega arith) (omega arith), within_above 0xE0 0xE0 a l (omega arith), within_above 0xE1 0xEC a k (omega arith), within_above 0xED 0xED a m (omega arith), within_is 0xEE 0xEF a n (omega arith), t))
+      simp (
+        j,
+        within_above 0x3BE0 0x3BFF AB (omega arith) (omega arith),
+        within_above 0xE0 0xE0 a l (omega arith),
+        within_above 0xE1 0xEC a k (omega arith),
+        within_above 0xED 0xED a m (omega arith),
+        within_is 0xEE 0xEF a n (omega arith),
+        t,
+      ))
       (decide (ltb a 0xEE)))
       (decide (ltb a 0xED)))
       (decide (ltb a 0xE1))
@@ -70,7 +100,13 @@ module _ (a b : ℕ) (t : tail b ≡ true) where
       let k = ltb-true a 0xF1 e in
       ⊎_elim
       (λ f. let m = leb-true 0x90 b f in simp (within_is 0x3C90 0x3D8F AB (omega arith) (omega arith), within_is 0xF0 0xF0 a l (omega arith), f, le-leb b 0xBF hi))
-      (λ f. let m = leb-false 0x90 b f in simp (within_below 0x3C90 0x3D8F AB (omega arith), within_is 0xF0 0xF0 a l (omega arith), within_below 0xF1 0xF3 a k, within_below 0xF4 0xF4 a (omega arith), f))
+      (λ f. let m = leb-false 0x90 b f in simp (
+        within_below 0x3C90 0x3D8F AB (omega arith),
+        within_is 0xF0 0xF0 a l (omega arith),
+        within_below 0xF1 0xF3 a k,
+        within_below 0xF4 0xF4 a (omega arith),
+        f,
+      ))
       (decide (leb 0x90 b)))
       (λ e.
       let k = ltb-false a 0xF1 e in
@@ -82,8 +118,20 @@ module _ (a b : ℕ) (t : tail b ≡ true) where
       (λ g.
       let n = ltb-true a 0xF5 g in
       ⊎_elim
-      (λ q. let r = ltb-true b 0x90 q in simp (within_is 0x3C90 0x3D8F AB (omega arith) (omega arith), within_above 0xF0 0xF0 a l (omega arith), within_above 0xF1 0xF3 a k (omega arith), within_is 0xF4 0xF4 a m (omega arith), within_is 0x80 0x8F b lo (omega arith)))
-      (λ q. let r = ltb-false b 0x90 q in simp (within_above 0x3C90 0x3D8F AB (omega arith) (omega arith), within_above 0xF0 0xF0 a l (omega arith), within_above 0xF1 0xF3 a k (omega arith), within_is 0xF4 0xF4 a m (omega arith), within_above 0x80 0x8F b lo (omega arith)))
+      (λ q. let r = ltb-true b 0x90 q in simp (
+        within_is 0x3C90 0x3D8F AB (omega arith) (omega arith),
+        within_above 0xF0 0xF0 a l (omega arith),
+        within_above 0xF1 0xF3 a k (omega arith),
+        within_is 0xF4 0xF4 a m (omega arith),
+        within_is 0x80 0x8F b lo (omega arith),
+      ))
+      (λ q. let r = ltb-false b 0x90 q in simp (
+        within_above 0x3C90 0x3D8F AB (omega arith) (omega arith),
+        within_above 0xF0 0xF0 a l (omega arith),
+        within_above 0xF1 0xF3 a k (omega arith),
+        within_is 0xF4 0xF4 a m (omega arith),
+        within_above 0x80 0x8F b lo (omega arith),
+      ))
       (decide (ltb b 0x90)))
       (λ g.
       let n = ltb-false a 0xF5 g in

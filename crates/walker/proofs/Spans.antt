@@ -94,7 +94,18 @@ module _ (s : List ℕ) (at : ℕ) (h : at < length s) where
     module _ (hi : get_or s at 0 < 16) where
       pub span_bare : get_or s at 0 < 8 → {x : SpanRead} → x ≡ span_with (get_or s at 0) (at + 1) (at + 1) → SpanIs (span_at (drop at s)) s x
       unfolding span_at
-      span_bare l f = rw f (record { read = rw (drop_next s at h, le-leb 4 (get_or s at 0) lo, lt-ltb (get_or s at 0) 16 hi, lt-ltb (get_or s at 0) 8 l, sub_self (at + 1), chars_nil); placed = record { order = omega arith; bound = omega arith } })
+      span_bare l f =
+          rw f (record {
+            read = rw (
+              drop_next s at h,
+              le-leb 4 (get_or s at 0) lo,
+              lt-ltb (get_or s at 0) 16 hi,
+              lt-ltb (get_or s at 0) 8 l,
+              sub_self (at + 1),
+              chars_nil,
+            );
+            placed = record { order = omega arith; bound = omega arith };
+          })
 
       module _ (l : 8 ≤ get_or s at 0) {r : Part} (w : PartIs (text_at (drop (at + 1) s)) s r) where
         pub span_none : r ≡ P.Bad → SpanIs (span_at (drop at s)) s S.Bad
@@ -103,7 +114,11 @@ module _ (s : List ℕ) (at : ℕ) (h : at < length s) where
 
         pub span_is : {start end : ℕ} → r ≡ P.At start end → {x : SpanRead} → x ≡ span_with (get_or s at 0) start end → SpanIs (span_at (drop at s)) s x
         unfolding span_at
-        span_is e f = rw f (record { read = rw (drop_next s at h, le-leb 4 (get_or s at 0) lo, lt-ltb (get_or s at 0) 16 hi, le-ltb (get_or s at 0) 8 l, w.read, e); placed = subst (part_placed s) e w.placed })
+        span_is e f =
+            rw f (record {
+              read = rw (drop_next s at h, le-leb 4 (get_or s at 0) lo, lt-ltb (get_or s at 0) 16 hi, le-ltb (get_or s at 0) 8 l, w.read, e);
+              placed = subst (part_placed s) e w.placed;
+            })
 
 -- several spans: what they are does not change where they end
 rest_of : {A B : Type 0} (p : Parse A) (f : A → B) → rest (p ▹ λ a q. parsed (f a) q) ≡ rest p

@@ -23,10 +23,12 @@ pub returns-then-res-end : goal.returns-then-res-end
 returns-then-res-end c =
     let r = c.read-end.ensures in
     let k = c.read-end.auto.out in
-    small_result c.args.markdown.now c.args.work.now c.args.res.now c.if-n-gt65536.false (sym c.is_utf8.ensures ∙ c.if-not-is_utf8.false) c.if-work-n.false c.read-end.new.work _ (omega (arith, c.if-res-end.true, k, r.0)) (c.clear.ensures ∙ ap (λ (n : ℕ). replicate n 0) k)
+    small_result c.args.markdown.now c.args.work.now c.args.res.now c.if-n-gt65536.false (sym c.is_utf8.ensures ∙ c.if-not-is_utf8.false) c.if-work-n.false
+    c.read-end.new.work _ (omega (arith, c.if-res-end.true, k, r.0)) (c.clear.ensures ∙ ap (λ (n : ℕ). replicate n 0) k)
 
 pub returns : goal.returns
 returns c =
     let r = c.read-end.ensures in
     let k = c.read-end.auto.out in
-    all_written c.args.markdown.now c.args.work.now c.args.res.now c.if-n-gt65536.false (sym c.is_utf8.ensures ∙ c.if-not-is_utf8.false) c.if-work-n.false c.read-end.new.work _ _ r.0 (omega (arith, c.if-res-end.false, k)) r.1
+    all_written c.args.markdown.now c.args.work.now c.args.res.now c.if-n-gt65536.false (sym c.is_utf8.ensures ∙ c.if-not-is_utf8.false) c.if-work-n.false
+    c.read-end.new.work _ _ r.0 (omega (arith, c.if-res-end.false, k)) r.1

@@ -37,7 +37,9 @@ pub loop-i-smaller : goal.loop-i-smaller
 loop-i-smaller c = let w = c.next_line-line.ensures in omega (arith, w.short, w.order, c.loop-i-test.true)
 
 pub loop-i-preserved : goal.loop-i-preserved
-loop-i-preserved c = reading_next _ _ _ _ _ _ _ c.loop-i.invariant _ _ c.loop-i-test.true c.next_line-line.ensures c.next_line-line.auto.work _ _ _ c.read_line-s.auto.work c.read_line-s.auto.out c.read_line-s.ensures
+loop-i-preserved c =
+    reading_next _ _ _ _ _ _ _ c.loop-i.invariant _ _ c.loop-i-test.true c.next_line-line.ensures c.next_line-line.auto.work _ _ _ c.read_line-s.auto.work
+    c.read_line-s.auto.out c.read_line-s.ensures
 
 pub flush-end-requires : goal.flush-end-requires
 flush-end-requires c = (c.loop-i.invariant.safe, reading_low _ _ _ _ _ _ _ c.loop-i.invariant)

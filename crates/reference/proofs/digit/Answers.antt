@@ -32,7 +32,9 @@ pub overflow_sub-result-then-within-3 : goal.overflow_sub-result-then-within-3
 overflow_sub-result-then-within-3 c = omega (arith, within_true 65 70 c.args.c (sym c.within-3.ensures ∙ c.if-within-3.true))
 
 pub returns-then-within-3 : goal.returns-then-within-3
-returns-then-within-3 c = sym (digit_A _ (no_digit (goal.at.returns-then-within-3 c).Else-within) (no_letter (goal.at.returns-then-within-3 c).Else-within-2) (sym c.within-3.ensures ∙ c.if-within-3.true))
+returns-then-within-3 c =
+    sym (digit_A _ (no_digit (goal.at.returns-then-within-3 c).Else-within) (no_letter (goal.at.returns-then-within-3 c).Else-within-2)
+    (sym c.within-3.ensures ∙ c.if-within-3.true))
 
 pub returns : goal.returns
 returns c = sym (digit_none _ (no_digit (goal.at.returns c).Else-within) (no_letter (goal.at.returns c).Else-within-2) (sym c.within-3.ensures ∙ c.if-within-3.false))

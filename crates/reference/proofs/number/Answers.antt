@@ -32,7 +32,8 @@ pub returns-then-is_control : goal.returns-then-is_control
 returns-then-is_control c =
     sym
     (ap value
-    (number_control c.args.name.now _ (number_of (goal.at.returns-then-is_control c).In-Is) (scalar (goal.at.returns-then-is_control c).Else-not-is_scalar) (sym c.is_control.ensures ∙ c.if-is_control.true)))
+    (number_control c.args.name.now _ (number_of (goal.at.returns-then-is_control c).In-Is) (scalar (goal.at.returns-then-is_control c).Else-not-is_scalar)
+    (sym c.is_control.ensures ∙ c.if-is_control.true)))
 
 pub returns : goal.returns
 returns c =

@@ -22,7 +22,9 @@ semicolon c =
     (ap (λ (l : List ℕ). index (59 ∷ []) l) (sym c.near-next.ensures) ∙ found_first _ _ (sym c.find.ensures ∙ c.in-Here.is))
 
 pub returns-in_default : goal.returns-in_default
-returns-in_default c = sym (ap answer (near_none (drop c.args.i c.args.s.now) (ap (λ (l : List ℕ). index (59 ∷ []) l) (sym c.near-next.ensures) ∙ found_none 0 _ (sym c.find.ensures ∙ c.in_default.is))))
+returns-in_default c =
+    sym (ap answer (near_none (drop c.args.i c.args.s.now)
+    (ap (λ (l : List ℕ). index (59 ∷ []) l) (sym c.near-next.ensures) ∙ found_none 0 _ (sym c.find.ensures ∙ c.in_default.is))))
 
 pub slice_bounds-named-end : goal.slice_bounds-named-end
 slice_bounds-named-end c = rw c.near-next.ensures (sym (semicolon (goal.at.slice_bounds-named-end c).In-Here).exact)
@@ -31,10 +33,14 @@ pub named-requires : goal.named-requires
 named-requires c = let h = semicolon (goal.at.named-requires c).In-Here in rw (c.near-next.ensures, h.exact) h.small
 
 pub returns-in_default-named : goal.returns-in_default-named
-returns-in_default-named c = sym (ap answer (near_left _ _ (semicolon (goal.at.returns-in_default-named c).In-Here) (ap (λ (l : List ℕ). named (take c.in-Here.n l)) (sym c.near-next.ensures) ∙ value_none _ (sym c.named.ensures ∙ c.in_default-named.is))))
+returns-in_default-named c =
+    sym (ap answer (near_left _ _ (semicolon (goal.at.returns-in_default-named c).In-Here)
+    (ap (λ (l : List ℕ). named (take c.in-Here.n l)) (sym c.near-next.ensures) ∙ value_none _ (sym c.named.ensures ∙ c.in_default-named.is))))
 
 pub overflow_add-result : goal.overflow_add-result
 overflow_add-result c = let h = semicolon (goal.at.overflow_add-result c).In-Here in omega (arith, h.small)
 
 pub returns : goal.returns
-returns c = sym (ap answer (near_replaced _ _ (semicolon (goal.at.returns c).In-Here) _ (ap (λ (l : List ℕ). named (take c.in-Here.n l)) (sym c.near-next.ensures) ∙ value_some _ _ (sym c.named.ensures ∙ c.in-Is.is))))
+returns c =
+    sym (ap answer (near_replaced _ _ (semicolon (goal.at.returns c).In-Here) _
+    (ap (λ (l : List ℕ). named (take c.in-Here.n l)) (sym c.near-next.ensures) ∙ value_some _ _ (sym c.named.ensures ∙ c.in-Is.is))))

@@ -9,7 +9,11 @@ pub returns-then-not-starts_with : goal.returns-then-not-starts_with
 returns-then-not-starts_with c = sym (ap value (written_none c.args.name.now (sym c.starts_with.ensures ∙ c.if-not-starts_with.true)))
 
 pub returns-then-is_hexadecimal : goal.returns-then-is_hexadecimal
-returns-then-is_hexadecimal c = c.from_str_radix.ensures ∙ sym (ap value (written_hexadecimal c.args.name.now (sym c.starts_with.ensures ∙ c.if-not-starts_with.false) (sym c.is_hexadecimal.ensures ∙ c.if-is_hexadecimal.true)))
+returns-then-is_hexadecimal c =
+    c.from_str_radix.ensures ∙ sym (ap value (written_hexadecimal c.args.name.now (sym c.starts_with.ensures ∙ c.if-not-starts_with.false)
+    (sym c.is_hexadecimal.ensures ∙ c.if-is_hexadecimal.true)))
 
 pub returns : goal.returns
-returns c = c.from_str_radix-2.ensures ∙ sym (ap value (written_decimal c.args.name.now (sym c.starts_with.ensures ∙ c.if-not-starts_with.false) (sym c.is_hexadecimal.ensures ∙ c.if-is_hexadecimal.false)))
+returns c =
+    c.from_str_radix-2.ensures ∙ sym (ap value (written_decimal c.args.name.now (sym c.starts_with.ensures ∙ c.if-not-starts_with.false)
+    (sym c.is_hexadecimal.ensures ∙ c.if-is_hexadecimal.false)))

@@ -141,7 +141,15 @@ join_label-w-requires t c =
     let k = link_found a.line.now (l.w.i + 1) _ _ (sym c.in-Ends.is ∙ c.find_link.ensures.0) in
     let from = l.w.i + 1 in
     let x = c.in-Ends.close in
-    omega (arith, bounds a.bold a.italic a.line.now a.out.now a.at l.w l.out l.invariant.0 c.requires, c.requires, c.spans_in-label.ensures.1.0, label_few (take (x - from) (drop from a.line.now)), length-take (x - from) (drop from a.line.now), length-drop from a.line.now)
+    omega (
+      arith,
+      bounds a.bold a.italic a.line.now a.out.now a.at l.w l.out l.invariant.0 c.requires,
+      c.requires,
+      c.spans_in-label.ensures.1.0,
+      label_few (take (x - from) (drop from a.line.now)),
+      length-take (x - from) (drop from a.line.now),
+      length-drop from a.line.now,
+    )
 
 pub loop-w-smaller : goal.loop-w-smaller
 loop-w-smaller t c =

@@ -16,4 +16,7 @@ pub tick-preserved : goal.tick-preserved
 tick-preserved c = (clear_step 96 _ _ _ c.tick.invariant.0 c.if-s-i.false (eqb-false _ _ (sym c.ends_code.ensures ∙ c.if-ends_code.false)), c.tick.invariant.1)
 
 pub returns : goal.returns
-returns c = (sym (clear_next 96 _ _ _ c.tick.invariant.0 ∙ next_here 96 _ _ c.if-s-i.false (eqb-true _ _ (sym c.ends_code.ensures ∙ c.if-ends_code.true))), note_tick _ _ c.tick.invariant.1 _ _ c.tick.invariant.0 _ c.note-2.ensures)
+returns c = (
+  sym (clear_next 96 _ _ _ c.tick.invariant.0 ∙ next_here 96 _ _ c.if-s-i.false (eqb-true _ _ (sym c.ends_code.ensures ∙ c.if-ends_code.true))),
+  note_tick _ _ c.tick.invariant.1 _ _ c.tick.invariant.0 _ c.note-2.ensures,
+)

@@ -34,7 +34,16 @@ pub put_code-requires : goal.put_code-requires
 put_code-requires c = let a = c.args in
     let end = c.in-Here.end in
     let l = (found_at 96 c.args.line.now _ _ (sym c.find.ensures.0 ∙ c.in-Here.is)) in
-    omega (arith, l.place, l.inside, flush_bound a.w _ c.flush-f.ensures.0, length-take (end - (a.w.i + 1)) (drop (a.w.i + 1) a.line.now), length-drop (a.w.i + 1) a.line.now, c.requires.0.room, c.requires.0.few)
+    omega (
+      arith,
+      l.place,
+      l.inside,
+      flush_bound a.w _ c.flush-f.ensures.0,
+      length-take (end - (a.w.i + 1)) (drop (a.w.i + 1) a.line.now),
+      length-drop (a.w.i + 1) a.line.now,
+      c.requires.0.room,
+      c.requires.0.few,
+    )
 
 pub returns : goal.returns
 returns c = (

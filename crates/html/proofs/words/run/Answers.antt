@@ -14,7 +14,8 @@ use Rattle.html.specs.Struct.{pending}
 use Rattle.html.specs.Pen.{pen_state, Unescaped, Inking}
 use Rattle.html.specs.declared.words.Pen.{Pen}
 use Rattle.html.specs.declared.words.Piece.{Piece}
-use Rattle.html.proofs.TextLaws.{ink_room, ink_pause, ink_write, behind_put, behind_pause, piece, piece_ascii, plain_ascii, plain_not_and, plain_not_blank, plain_write, other_outside, other_blank, special_not_blank, bare_len, special_two}
+use Rattle.html.proofs.TextLaws.{ink_room, ink_pause, ink_write, behind_put, behind_pause, piece, piece_ascii, plain_ascii, plain_not_and, plain_not_blank, plain_write}
+use Rattle.html.proofs.TextLaws.{other_outside, other_blank, special_not_blank, bare_len, special_two}
 use borrow.Author.Rules.{rules}
 use Rattle.html.proofs.words.run.Invariants.{Running}
 use Rattle.html.proofs.words.run.Goals as goal

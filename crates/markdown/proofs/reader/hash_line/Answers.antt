@@ -27,7 +27,17 @@ pub slice_bounds-put_heading-end : goal.slice_bounds-put_heading-end
 slice_bounds-put_heading-end c = (titled c).inside.bound
 
 pub put_heading-requires : goal.put_heading-requires
-put_heading-requires c = (omega (arith, c.flush-p.ensures.grows, c.requires.1), (omega (arith, title_small _ _ _ _ _ c.args.s _ c.flush-p.result c.args.copied _ _ c.requires.0 c.text_of-line.ensures c.flush-p.ensures _ _ _ (titled (goal.at.put_heading-requires c).In-Named)), (titled (goal.at.put_heading-requires c).In-Named).low))
+put_heading-requires c = (
+  omega (arith, c.flush-p.ensures.grows, c.requires.1),
+  (
+    omega (
+      arith,
+      title_small _ _ _ _ _ c.args.s _ c.flush-p.result c.args.copied _ _ c.requires.0 c.text_of-line.ensures c.flush-p.ensures _ _ _
+          (titled (goal.at.put_heading-requires c).In-Named),
+    ),
+    (titled (goal.at.put_heading-requires c).In-Named).low,
+  ),
+)
 
 pub open_paragraph-requires : goal.open_paragraph-requires
 open_paragraph-requires c =

@@ -41,11 +41,23 @@ bounds-text-0 c = let v = c.trimmed-t.ensures in omega (arith, v.order, v.high, 
 
 pub text_line-requires : goal.text_line-requires
 text_line-requires c =
-    let v = c.trimmed-t.ensures in
-    (words_given _ _ _ _ c.requires _ c.text_of-text.ensures _ c.trimmed-t.ensures, (omega (arith, v.order, c.if-a-t.false), (words_fit _ _ _ _ c.requires _ c.text_of-text.ensures _ c.trimmed-t.ensures, words_scalars _ _ _ _ c.requires _ c.text_of-text.ensures _ c.trimmed-t.ensures)))
+    let v = c.trimmed-t.ensures in (
+      words_given _ _ _ _ c.requires _ c.text_of-text.ensures _ c.trimmed-t.ensures,
+      (
+        omega (arith, v.order, c.if-a-t.false),
+        (
+          words_fit _ _ _ _ c.requires _ c.text_of-text.ensures _ c.trimmed-t.ensures,
+          words_scalars _ _ _ _ c.requires _ c.text_of-text.ensures _ c.trimmed-t.ensures,
+        ),
+      ),
+    )
 
 pub returns-in-At : goal.returns-in-At
-returns-in-At c = step_item _ _ _ _ c.requires _ c.text_of-text.ensures _ c.trimmed-t.ensures _ _ _ _ c.if-a-t.false c.if-text-a-eq35.false _ _ _ _ _ (rw c.in-At.is at c.list_marker.ensures) c.item_line.ensures
+returns-in-At c =
+    step_item _ _ _ _ c.requires _ c.text_of-text.ensures _ c.trimmed-t.ensures _ _ _ _ c.if-a-t.false c.if-text-a-eq35.false _ _ _ _ _
+    (rw c.in-At.is at c.list_marker.ensures) c.item_line.ensures
 
 pub returns-in-Unmarked : goal.returns-in-Unmarked
-returns-in-Unmarked c = step_text _ _ _ _ c.requires _ c.text_of-text.ensures _ c.trimmed-t.ensures _ _ _ _ c.if-a-t.false c.if-text-a-eq35.false (rw c.in-Unmarked.is at c.list_marker.ensures) c.text_line.ensures
+returns-in-Unmarked c =
+    step_text _ _ _ _ c.requires _ c.text_of-text.ensures _ c.trimmed-t.ensures _ _ _ _ c.if-a-t.false c.if-text-a-eq35.false
+    (rw c.in-Unmarked.is at c.list_marker.ensures) c.text_line.ensures

@@ -22,7 +22,9 @@ pub row_line-requires : goal.row_line-requires
 row_line-requires c = (c.requires.0, c.requires.1.1.1)
 
 pub returns-then-line-eq124 : goal.returns-then-line-eq124
-returns-then-line-eq124 c = row_step _ _ c.args.s c.args.copied _ _ c.requires.0 _ c.text_of-line.ensures _ c.requires.1.0 (sym c.is_rule.ensures ∙ c.if-is_rule.false) _ _ _ _ c.if-line-eq124.true c.row_line.ensures
+returns-then-line-eq124 c =
+    row_step _ _ c.args.s c.args.copied _ _ c.requires.0 _ c.text_of-line.ensures _ c.requires.1.0 (sym c.is_rule.ensures ∙ c.if-is_rule.false) _ _ _ _
+    c.if-line-eq124.true c.row_line.ensures
 
 pub continue_item-requires : goal.continue_item-requires
 continue_item-requires c =
@@ -33,10 +35,13 @@ continue_item-requires c =
 pub returns-then-goes_on : goal.returns-then-goes_on
 returns-then-goes_on c =
     let e = c.continue_item.ensures in
-    continue_step _ _ c.args.s c.args.copied _ _ c.requires.0 _ c.text_of-line.ensures _ c.requires.1.0 (sym c.is_rule.ensures ∙ c.if-is_rule.false) c.if-line-eq124.false _ _ _ (sym c.goes_on.ensures ∙ c.if-goes_on.true) e.0 e.1
+    continue_step _ _ c.args.s c.args.copied _ _ c.requires.0 _ c.text_of-line.ensures _ c.requires.1.0 (sym c.is_rule.ensures ∙ c.if-is_rule.false)
+    c.if-line-eq124.false _ _ _ (sym c.goes_on.ensures ∙ c.if-goes_on.true) e.0 e.1
 
 pub add_text-requires : goal.add_text-requires
 add_text-requires c = (c.requires.0, c.requires.1.1.0)
 
 pub returns : goal.returns
-returns c = add_step _ _ c.args.s c.args.copied _ _ c.requires.0 _ c.text_of-line.ensures _ c.requires.1.0 (sym c.is_rule.ensures ∙ c.if-is_rule.false) c.if-line-eq124.false _ _ _ (sym c.goes_on.ensures ∙ c.if-goes_on.false) (c.add_text.ensures c.args.out.now)
+returns c =
+    add_step _ _ c.args.s c.args.copied _ _ c.requires.0 _ c.text_of-line.ensures _ c.requires.1.0 (sym c.is_rule.ensures ∙ c.if-is_rule.false)
+    c.if-line-eq124.false _ _ _ (sym c.goes_on.ensures ∙ c.if-goes_on.false) (c.add_text.ensures c.args.out.now)

@@ -25,4 +25,6 @@ pub trimmed-t-requires : goal.trimmed-t-requires
 trimmed-t-requires c = ordinal_inside _ _ c.requires.0 c.requires.1 _ c.digits_end-stop.ensures (sym c.starts_with.ensures ∙ c.if-not-starts_with.false)
 
 pub returns : goal.returns
-returns c = ordinal_is _ _ c.requires.0 c.requires.1 _ c.digits_end-stop.ensures (sym c.starts_with.ensures ∙ c.if-not-starts_with.false) _ c.if-stop-at.false c.if-stop-at-gt9.false c.trimmed-t.ensures
+returns c =
+    ordinal_is _ _ c.requires.0 c.requires.1 _ c.digits_end-stop.ensures (sym c.starts_with.ensures ∙ c.if-not-starts_with.false) _ c.if-stop-at.false
+    c.if-stop-at-gt9.false c.trimmed-t.ensures

@@ -18,5 +18,7 @@ returns c =
     let e = c.spans-w.ensures in
     let n = c.next_span-start.ensures in
     let l = start_low c.args.s p.1.1.0 in
-    let o = c.args.out.now in
-    (continue_state c.args.s _ o _ _ _ _ _ _ n (omega (arith, n, l, p.0)) p.1.0 e.0 e.1.0 c.put_space.ensures e.1.1 c.put_u32.ensures c.put.ensures, continue_out c.args.s _ o _ _ _ _ _ _ n (omega (arith, n, l, p.0)) p.1.0 e.0 e.1.0 c.put_space.ensures e.1.1 c.put_u32.ensures c.put.ensures)
+    let o = c.args.out.now in (
+      continue_state c.args.s _ o _ _ _ _ _ _ n (omega (arith, n, l, p.0)) p.1.0 e.0 e.1.0 c.put_space.ensures e.1.1 c.put_u32.ensures c.put.ensures,
+      continue_out c.args.s _ o _ _ _ _ _ _ n (omega (arith, n, l, p.0)) p.1.0 e.0 e.1.0 c.put_space.ensures e.1.1 c.put_u32.ensures c.put.ensures,
+    )

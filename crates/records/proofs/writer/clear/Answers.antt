@@ -10,7 +10,12 @@ use Rattle.records.proofs.Stores.{cleared}
 use Rattle.records.proofs.writer.clear.Goals as goal
 
 pub loop-i-preserved : goal.loop-i-preserved
-loop-i-preserved c = let a = c.args in let l = c.loop-i in (omega arith, length-set l.out l.i 0 ∙ l.invariant.1, ap (λ (x : List ℕ). set x l.i 0) l.invariant.2 ∙ fill_more l.i 0 a.out.now (omega arith))
+loop-i-preserved c =
+    let a = c.args in let l = c.loop-i in (
+      omega arith,
+      length-set l.out l.i 0 ∙ l.invariant.1,
+      ap (λ (x : List ℕ). set x l.i 0) l.invariant.2 ∙ fill_more l.i 0 a.out.now (omega arith),
+    )
 
 pub shape_of-out : goal.shape_of-out
 shape_of-out c = c.loop-i.invariant.1

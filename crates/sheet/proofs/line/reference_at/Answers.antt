@@ -50,7 +50,9 @@ returns-then-starts_with-3 c =
     let a = c.args in
     let t = stands (str "&amp;") a.page.now a.at refl c.starts_with-3.ensures c.if-starts_with-3.true in
     let i = t.inside (omega arith) in
-    spells a.page.now a.at (referred (from a.page.now a.at)) 38 (a.at + 5) (char_3 (from a.page.now a.at) (not_1 (goal.at.returns-then-starts_with-3 c).Else-starts_with) (not_2 (goal.at.returns-then-starts_with-3 c).Else-starts_with-2) t.off)
+    spells a.page.now a.at (referred (from a.page.now a.at)) 38 (a.at + 5)
+    (char_3 (from a.page.now a.at) (not_1 (goal.at.returns-then-starts_with-3 c).Else-starts_with)
+    (not_2 (goal.at.returns-then-starts_with-3 c).Else-starts_with-2) t.off)
     (omega arith) i
 
 pub returns-then-starts_with-4 : goal.returns-then-starts_with-4
@@ -58,7 +60,9 @@ returns-then-starts_with-4 c =
     let a = c.args in
     let t = stands (str "&gt;") a.page.now a.at refl c.starts_with-4.ensures c.if-starts_with-4.true in
     let i = t.inside (omega arith) in
-    spells a.page.now a.at (referred (from a.page.now a.at)) 62 (a.at + 4) (char_4 (from a.page.now a.at) (not_1 (goal.at.returns-then-starts_with-4 c).Else-starts_with) (not_2 (goal.at.returns-then-starts_with-4 c).Else-starts_with-2) (not_3 (goal.at.returns-then-starts_with-4 c).Else-starts_with-3) t.off)
+    spells a.page.now a.at (referred (from a.page.now a.at)) 62 (a.at + 4)
+    (char_4 (from a.page.now a.at) (not_1 (goal.at.returns-then-starts_with-4 c).Else-starts_with)
+    (not_2 (goal.at.returns-then-starts_with-4 c).Else-starts_with-2) (not_3 (goal.at.returns-then-starts_with-4 c).Else-starts_with-3) t.off)
     (omega arith) i
 
 pub overflow_add-result-then-starts_with-5 : goal.overflow_add-result-then-starts_with-5
@@ -72,10 +76,15 @@ returns-then-starts_with-5 c =
     let a = c.args in
     let t = stands (str "&quot;") a.page.now a.at refl c.starts_with-5.ensures c.if-starts_with-5.true in
     let i = t.inside (omega arith) in
-    spells a.page.now a.at (referred (from a.page.now a.at)) 34 (a.at + 6) (char_5 (from a.page.now a.at) (not_1 (goal.at.returns-then-starts_with-5 c).Else-starts_with) (not_2 (goal.at.returns-then-starts_with-5 c).Else-starts_with-2) (not_3 (goal.at.returns-then-starts_with-5 c).Else-starts_with-3) (not_4 (goal.at.returns-then-starts_with-5 c).Else-starts_with-4) t.off)
+    spells a.page.now a.at (referred (from a.page.now a.at)) 34 (a.at + 6)
+    (char_5 (from a.page.now a.at) (not_1 (goal.at.returns-then-starts_with-5 c).Else-starts_with)
+    (not_2 (goal.at.returns-then-starts_with-5 c).Else-starts_with-2) (not_3 (goal.at.returns-then-starts_with-5 c).Else-starts_with-3)
+    (not_4 (goal.at.returns-then-starts_with-5 c).Else-starts_with-4) t.off)
     (omega arith) i
 
 pub returns : goal.returns
 returns c =
     let a = c.args in
-    unspelt a.page.now a.at (referred (from a.page.now a.at)) (char_6 (from a.page.now a.at) (not_1 (goal.at.returns c).Else-starts_with) (not_2 (goal.at.returns c).Else-starts_with-2) (not_3 (goal.at.returns c).Else-starts_with-3) (not_4 (goal.at.returns c).Else-starts_with-4) (not_5 c))
+    unspelt a.page.now a.at (referred (from a.page.now a.at))
+    (char_6 (from a.page.now a.at) (not_1 (goal.at.returns c).Else-starts_with) (not_2 (goal.at.returns c).Else-starts_with-2)
+    (not_3 (goal.at.returns c).Else-starts_with-3) (not_4 (goal.at.returns c).Else-starts_with-4) (not_5 c))

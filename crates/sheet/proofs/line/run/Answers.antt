@@ -31,13 +31,19 @@ pub returns-then-not-is_closed : goal.returns-then-not-is_closed
 returns-then-not-is_closed c =
     let a = c.args in
     not_ran a.page.now a.at _
-    (run_2 a.page.now a.at c.kind_at-kind.result c.kind_at-kind.ensures c.before-2.result c.before-2.ensures c.scan-passage.result c.scan-passage.ensures (sym c.suits.ensures ∙ c.if-not-suits.false) (no_tag (after (kind_of c.kind_at-kind.result)) a.page.now c.scan-passage.result.next c.is_closed.ensures c.if-not-is_closed.true))
+    (run_2 a.page.now a.at c.kind_at-kind.result c.kind_at-kind.ensures c.before-2.result c.before-2.ensures c.scan-passage.result c.scan-passage.ensures
+    (sym c.suits.ensures ∙ c.if-not-suits.false)
+    (no_tag (after (kind_of c.kind_at-kind.result)) a.page.now c.scan-passage.result.next c.is_closed.ensures c.if-not-is_closed.true))
 
 pub overflow_add-result : goal.overflow_add-result
 overflow_add-result c =
     let a = c.args in
     let i : a.at ≤ length a.page.now = omega (arith, c.if-page-at.false) in
-    omega (arith, run_bound a.page.now a.at c.kind_at-kind.result c.kind_at-kind.ensures c.before-2.result c.before-2.ensures c.scan-passage.result c.scan-passage.ensures (sym c.suits.ensures ∙ c.if-not-suits.false) i c.after.ensures c.is_closed.ensures c.if-not-is_closed.false)
+    omega (
+      arith,
+      run_bound a.page.now a.at c.kind_at-kind.result c.kind_at-kind.ensures c.before-2.result c.before-2.ensures c.scan-passage.result
+          c.scan-passage.ensures (sym c.suits.ensures ∙ c.if-not-suits.false) i c.after.ensures c.is_closed.ensures c.if-not-is_closed.false,
+    )
 
 pub returns : goal.returns
 returns c =

@@ -19,7 +19,8 @@ use Rattle.sheet.proofs.TestItems.{items_none, items_next, list_0, list_2, list_
 use Prim.Native.Nat.{ℕ, suc, ◌+◌, ◌-◌, ◌≤◌, ◌<◌}
 use Rattle.sheet.proofs.list.+item_list.Invariants.{remaining}
 use Rattle.sheet.proofs.list.+item_list.Goals as goal
-use Rattle.sheet.proofs.list.+item_list.Goals.{item-After-nl-start, item-Else-not-starts_with, item-Else-starts_with, item-In-At, item-In-At-list, list-After-place, list-In-At, list-In-List, list-In_default-item}
+use Rattle.sheet.proofs.list.+item_list.Goals.{item-After-nl-start, item-Else-not-starts_with, item-Else-starts_with, item-In-At, item-In-At-list, list-After-place, list-In-At}
+use Rattle.sheet.proofs.list.+item_list.Goals.{list-In-List, list-In_default-item}
 
 -- <li> stands there
 li_open : (t : ℕ) (c : item-Else-not-starts_with t)
@@ -121,7 +122,8 @@ item-returns-in_default-list t c =
     let reading = read_list a.levels (from page start) in
     let no_list = says_no (list_form (8 - a.levels)) page start reading c.list.ensures c.in_default-list.is in
     refuses (item_form (7 - a.levels) a.place) page a.at (item_of (read_list a.levels) s)
-    (item_4 (read_list a.levels) s _ (li_open t (goal.at.item-returns-in_default-list t c).Else-not-starts_with).off w.what _ w.is (not_closed t (goal.at.item-returns-in_default-list t c).Else-starts_with) _ c.nl-start.ensures.rest no_list)
+    (item_4 (read_list a.levels) s _ (li_open t (goal.at.item-returns-in_default-list t c).Else-not-starts_with).off w.what _ w.is
+    (not_closed t (goal.at.item-returns-in_default-list t c).Else-starts_with) _ c.nl-start.ensures.rest no_list)
 
 pub item-overflow_add-result-then-starts_with-2 : goal.item-overflow_add-result-then-starts_with-2
 item-overflow_add-result-then-starts_with-2 t c =

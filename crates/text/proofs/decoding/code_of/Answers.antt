@@ -25,7 +25,9 @@ pub join-requires-then-n-eq3 : goal.join-requires-then-n-eq3
 join-requires-then-n-eq3 c = let h = (size_3 c.args.a c.args.b c.args.c c.args.d c.args.n c.requires.0 c.if-n-eq3.true).0 in (omega arith, within_is 0x80 0xBF _ h.b_low h.b_high)
 
 pub join-requires-then-n-eq3-2 : goal.join-requires-then-n-eq3-2
-join-requires-then-n-eq3-2 c = let h = (size_3 c.args.a c.args.b c.args.c c.args.d c.args.n c.requires.0 c.if-n-eq3.true).0 in (omega (arith, c.join-then-n-eq3.ensures), within_is 0x80 0xBF _ h.c_low h.c_high)
+join-requires-then-n-eq3-2 c =
+    let h = (size_3 c.args.a c.args.b c.args.c c.args.d c.args.n c.requires.0 c.if-n-eq3.true).0 in
+    (omega (arith, c.join-then-n-eq3.ensures), within_is 0x80 0xBF _ h.c_low h.c_high)
 
 pub returns-then-n-eq3 : goal.returns-then-n-eq3
 returns-then-n-eq3 c = (size_3 c.args.a c.args.b c.args.c c.args.d c.args.n c.requires.0 c.if-n-eq3.true).1 ∙ rw (c.join-then-n-eq3-2.ensures, c.join-then-n-eq3.ensures)
@@ -34,13 +36,21 @@ pub overflow_sub-a-2 : goal.overflow_sub-a-2
 overflow_sub-a-2 c = let h = (size_4 c.args.a c.args.b c.args.c c.args.d c.args.n c.requires.0 c.requires.1 c.if-n-eq1.false c.if-n-eq2.false c.if-n-eq3.false).0 in omega arith
 
 pub join-requires-2 : goal.join-requires-2
-join-requires-2 c = let h = (size_4 c.args.a c.args.b c.args.c c.args.d c.args.n c.requires.0 c.requires.1 c.if-n-eq1.false c.if-n-eq2.false c.if-n-eq3.false).0 in (omega arith, within_is 0x80 0xBF _ h.b_low h.b_high)
+join-requires-2 c =
+    let h = (size_4 c.args.a c.args.b c.args.c c.args.d c.args.n c.requires.0 c.requires.1 c.if-n-eq1.false c.if-n-eq2.false c.if-n-eq3.false).0 in
+    (omega arith, within_is 0x80 0xBF _ h.b_low h.b_high)
 
 pub join-requires-3 : goal.join-requires-3
-join-requires-3 c = let h = (size_4 c.args.a c.args.b c.args.c c.args.d c.args.n c.requires.0 c.requires.1 c.if-n-eq1.false c.if-n-eq2.false c.if-n-eq3.false).0 in (omega (arith, c.join-2.ensures), within_is 0x80 0xBF _ h.c_low h.c_high)
+join-requires-3 c =
+    let h = (size_4 c.args.a c.args.b c.args.c c.args.d c.args.n c.requires.0 c.requires.1 c.if-n-eq1.false c.if-n-eq2.false c.if-n-eq3.false).0 in
+    (omega (arith, c.join-2.ensures), within_is 0x80 0xBF _ h.c_low h.c_high)
 
 pub join-requires-4 : goal.join-requires-4
-join-requires-4 c = let h = (size_4 c.args.a c.args.b c.args.c c.args.d c.args.n c.requires.0 c.requires.1 c.if-n-eq1.false c.if-n-eq2.false c.if-n-eq3.false).0 in (omega (arith, c.join-3.ensures, c.join-2.ensures), within_is 0x80 0xBF _ h.d_low h.d_high)
+join-requires-4 c =
+    let h = (size_4 c.args.a c.args.b c.args.c c.args.d c.args.n c.requires.0 c.requires.1 c.if-n-eq1.false c.if-n-eq2.false c.if-n-eq3.false).0 in
+    (omega (arith, c.join-3.ensures, c.join-2.ensures), within_is 0x80 0xBF _ h.d_low h.d_high)
 
 pub returns : goal.returns
-returns c = (size_4 c.args.a c.args.b c.args.c c.args.d c.args.n c.requires.0 c.requires.1 c.if-n-eq1.false c.if-n-eq2.false c.if-n-eq3.false).1 ∙ rw (c.join-4.ensures, c.join-3.ensures, c.join-2.ensures)
+returns c =
+    (size_4 c.args.a c.args.b c.args.c c.args.d c.args.n c.requires.0 c.requires.1 c.if-n-eq1.false c.if-n-eq2.false c.if-n-eq3.false).1
+    ∙ rw (c.join-4.ensures, c.join-3.ensures, c.join-2.ensures)

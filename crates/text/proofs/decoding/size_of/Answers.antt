@@ -19,9 +19,11 @@ returns-then-a-lt224 c =
 pub returns-then-a-lt240 : goal.returns-then-a-lt240
 returns-then-a-lt240 c =
     let a = c.args in
-    rw (c.when-then-a-lt240.ensures, c.is_tail-then-a-lt240.ensures, c.is_tail-then-a-lt240-2.ensures) (after_tail _ _ _ _ 3 c.is_start3.ensures ∙ three_bytes a.a a.b a.c a.d c.if-a-le127.false c.if-a-lt224.false c.if-a-lt240.true)
+    rw (c.when-then-a-lt240.ensures, c.is_tail-then-a-lt240.ensures, c.is_tail-then-a-lt240-2.ensures)
+    (after_tail _ _ _ _ 3 c.is_start3.ensures ∙ three_bytes a.a a.b a.c a.d c.if-a-le127.false c.if-a-lt224.false c.if-a-lt240.true)
 
 pub returns : goal.returns
 returns c =
     let a = c.args in
-    rw (c.when-2.ensures, c.is_tail-2.ensures, c.is_tail-3.ensures, c.is_tail-4.ensures) (after_tail_2 _ _ _ _ _ 4 c.is_start4.ensures ∙ four_bytes a.a a.b a.c a.d c.if-a-le127.false c.if-a-lt240.false)
+    rw (c.when-2.ensures, c.is_tail-2.ensures, c.is_tail-3.ensures, c.is_tail-4.ensures)
+    (after_tail_2 _ _ _ _ _ 4 c.is_start4.ensures ∙ four_bytes a.a a.b a.c a.d c.if-a-le127.false c.if-a-lt240.false)

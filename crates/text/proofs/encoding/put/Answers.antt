@@ -38,4 +38,6 @@ pub bounds-out-at-4 : goal.bounds-out-at-4
 bounds-out-at-4 c = simp length-set (omega (arith, c.width-k.ensures, (utf8_size c.args.c).0))
 
 pub returns : goal.returns
-returns c = rw (add-one, add-two, add-three) (put_bytes c.args.out.now c.args.at c.args.c (omega arith) c.bytes_of-f.ensures c.width-k.ensures (omega arith) 4 (omega (arith, c.width-k.ensures, utf8_size c.args.c)))
+returns c =
+    rw (add-one, add-two, add-three) (put_bytes c.args.out.now c.args.at c.args.c (omega arith) c.bytes_of-f.ensures c.width-k.ensures (omega arith) 4
+    (omega (arith, c.width-k.ensures, utf8_size c.args.c)))

@@ -40,16 +40,45 @@ returns-then-e-lt2 c = simp (l1 (goal.at.returns-then-e-lt2 c).Start, q1 (goal.a
 
 pub returns-then-wide_space-eq2 : goal.returns-then-wide_space-eq2
 unfolding space_before
-returns-then-wide_space-eq2 c = simp (l1 (goal.at.returns-then-wide_space-eq2 c).Start, q1 (goal.at.returns-then-wide_space-eq2 c).Start, l2 (goal.at.returns-then-wide_space-eq2 c).Else-e-lt2, q2 (goal.at.returns-then-wide_space-eq2 c).After-wide_space ∙ eq-eqb _ 2 c.if-wide_space-eq2.true)
+returns-then-wide_space-eq2 c =
+    simp (
+      l1 (goal.at.returns-then-wide_space-eq2 c).Start,
+      q1 (goal.at.returns-then-wide_space-eq2 c).Start,
+      l2 (goal.at.returns-then-wide_space-eq2 c).Else-e-lt2,
+      q2 (goal.at.returns-then-wide_space-eq2 c).After-wide_space ∙ eq-eqb _ 2 c.if-wide_space-eq2.true,
+    )
 
 pub returns-then-e-lt3 : goal.returns-then-e-lt3
 unfolding space_before
-returns-then-e-lt3 c = simp (l1 (goal.at.returns-then-e-lt3 c).Start, q1 (goal.at.returns-then-e-lt3 c).Start, l2 (goal.at.returns-then-e-lt3 c).Else-e-lt2, q2 (goal.at.returns-then-e-lt3 c).After-wide_space ∙ ne_eqb _ 2 c.if-wide_space-eq2.false, lt-ltb c.args.e 3 c.if-e-lt3.true)
+returns-then-e-lt3 c =
+    simp (
+      l1 (goal.at.returns-then-e-lt3 c).Start,
+      q1 (goal.at.returns-then-e-lt3 c).Start,
+      l2 (goal.at.returns-then-e-lt3 c).Else-e-lt2,
+      q2 (goal.at.returns-then-e-lt3 c).After-wide_space ∙ ne_eqb _ 2 c.if-wide_space-eq2.false,
+      lt-ltb c.args.e 3 c.if-e-lt3.true,
+    )
 
 pub returns-then-wide_space-eq3 : goal.returns-then-wide_space-eq3
 unfolding space_before
-returns-then-wide_space-eq3 c = simp (l1 (goal.at.returns-then-wide_space-eq3 c).Start, q1 (goal.at.returns-then-wide_space-eq3 c).Start, l2 (goal.at.returns-then-wide_space-eq3 c).Else-e-lt2, q2 (goal.at.returns-then-wide_space-eq3 c).After-wide_space ∙ ne_eqb _ 2 c.if-wide_space-eq2.false, l3 (goal.at.returns-then-wide_space-eq3 c).Else-e-lt3, q3 (goal.at.returns-then-wide_space-eq3 c).After-wide_space-2 ∙ eq-eqb _ 3 c.if-wide_space-eq3.true)
+returns-then-wide_space-eq3 c =
+    simp (
+      l1 (goal.at.returns-then-wide_space-eq3 c).Start,
+      q1 (goal.at.returns-then-wide_space-eq3 c).Start,
+      l2 (goal.at.returns-then-wide_space-eq3 c).Else-e-lt2,
+      q2 (goal.at.returns-then-wide_space-eq3 c).After-wide_space ∙ ne_eqb _ 2 c.if-wide_space-eq2.false,
+      l3 (goal.at.returns-then-wide_space-eq3 c).Else-e-lt3,
+      q3 (goal.at.returns-then-wide_space-eq3 c).After-wide_space-2 ∙ eq-eqb _ 3 c.if-wide_space-eq3.true,
+    )
 
 pub returns : goal.returns
 unfolding space_before
-returns c = simp (l1 (goal.at.returns c).Start, q1 (goal.at.returns c).Start, l2 (goal.at.returns c).Else-e-lt2, q2 (goal.at.returns c).After-wide_space ∙ ne_eqb _ 2 c.if-wide_space-eq2.false, l3 (goal.at.returns c).Else-e-lt3, q3 (goal.at.returns c).After-wide_space-2 ∙ ne_eqb _ 3 c.if-wide_space-eq3.false)
+returns c =
+    simp (
+      l1 (goal.at.returns c).Start,
+      q1 (goal.at.returns c).Start,
+      l2 (goal.at.returns c).Else-e-lt2,
+      q2 (goal.at.returns c).After-wide_space ∙ ne_eqb _ 2 c.if-wide_space-eq2.false,
+      l3 (goal.at.returns c).Else-e-lt3,
+      q3 (goal.at.returns c).After-wide_space-2 ∙ ne_eqb _ 3 c.if-wide_space-eq3.false,
+    )

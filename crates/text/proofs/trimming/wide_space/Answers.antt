@@ -25,7 +25,8 @@ both c =
     (sym c.is_tail.ensures ∙ p.0, sym c.is_tail-2.ensures ∙ p.1)
 
 three : (c : After-is_tail-2) → wide_space (char (drop c.args.i c.args.s.now))
-    ≡ (if tail (get_or c.args.s.now (c.args.i + 1) 0) && tail (get_or c.args.s.now (c.args.i + 2) 0) then if is_space (join (join (get_or c.args.s.now c.args.i 0 - 0xE0) (get_or c.args.s.now (c.args.i + 1) 0)) (get_or c.args.s.now (c.args.i + 2) 0)) then 3 else 0 else 0)
+    ≡ (if tail (get_or c.args.s.now (c.args.i + 1) 0) && tail (get_or c.args.s.now (c.args.i + 2) 0) then if is_space
+    (join (join (get_or c.args.s.now c.args.i 0 - 0xE0) (get_or c.args.s.now (c.args.i + 1) 0)) (get_or c.args.s.now (c.args.i + 2) 0)) then 3 else 0 else 0)
 three c = wide_three_at c.args.s.now c.args.i (omega arith) (omega (arith, c.wide-a.ensures, c.if-a-lt225.false)) (omega (arith, c.wide-a.ensures, c.if-a-gt227.false))
 
 pub returns-then-a-eq194 : goal.returns-then-a-eq194
@@ -44,7 +45,12 @@ pub join-requires : goal.join-requires
 join-requires c = (omega (arith, c.if-a-gt227.false), (both c).0)
 
 pub join-requires-2 : goal.join-requires-2
-join-requires-2 c = (omega (arith, c.join.ensures, c.if-a-gt227.false, within_true 0x80 0xBF c.byte-b-2.result (both (goal.at.join-requires-2 c).Else-not-is_tail).0), (both (goal.at.join-requires-2 c).Else-not-is_tail).1)
+join-requires-2 c = (
+  omega (arith, c.join.ensures, c.if-a-gt227.false, within_true 0x80 0xBF c.byte-b-2.result (both (goal.at.join-requires-2 c).Else-not-is_tail).0),
+  (both (goal.at.join-requires-2 c).Else-not-is_tail).1,
+)
 
 pub returns : goal.returns
-returns c = c.when-2.ensures ∙ rw (c.is_space.ensures, c.join-2.ensures, c.join.ensures, c.wide-a.ensures, c.byte-b-2.ensures, c.byte-c.ensures) (sym (three (goal.at.returns c).After-is_tail-2 ∙ rw (sym (tails (goal.at.returns c).After-is_tail-2) ∙ c.if-not-is_tail.false)))
+returns c =
+    c.when-2.ensures ∙ rw (c.is_space.ensures, c.join-2.ensures, c.join.ensures, c.wide-a.ensures, c.byte-b-2.ensures, c.byte-c.ensures)
+    (sym (three (goal.at.returns c).After-is_tail-2 ∙ rw (sym (tails (goal.at.returns c).After-is_tail-2) ∙ c.if-not-is_tail.false)))
