@@ -1,7 +1,6 @@
 -- `find`: the search for a backtick starts after what is known of the line, and notes what it read.
 -- Assumes nothing.
 use mathlib.Core.Path.{sym, ◌∙◌}
-use native.Mathlib.Omega.{arith}
 use borrow.Author.Tests.{eqb-true, eqb-false}
 use Rattle.spans.proofs.Search.{clear_resumed, clear_step, clear_next, next_end, next_here, note_tick}
 use Rattle.spans.proofs.find.Goals as goal

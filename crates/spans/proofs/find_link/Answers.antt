@@ -1,7 +1,6 @@
 -- `find_link`: two searches that start after what is known of the line, and a test between them. The outer loop (`all`) and the one for `(` (`one`) make one turn.
 -- Assumes nothing.
 use mathlib.Core.Path.{sym, ◌∙◌}
-use native.Mathlib.Omega.{arith}
 use Rattle.spans.proofs.Search.{clear_resumed, clear_step, note_close, note_end, no_close, no_paren, no_end, closed}
 use Rattle.spans.proofs.find_link.Goals as goal
 

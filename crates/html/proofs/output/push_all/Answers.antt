@@ -1,6 +1,5 @@
 -- `push_all` meets its contract: what is left of the bytes gives the same output.
 -- Assumes nothing.
-use mathlib.Core.Path.{refl}
 use native.Mathlib.Omega.{arith}
 use Rattle.html.proofs.OutLaws.{all_more, all_done}
 use lib.ListN.{length-set}

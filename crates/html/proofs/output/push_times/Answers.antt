@@ -1,6 +1,6 @@
 -- `push_times` meets its contract: what is left of the bytes gives the same output.
 -- Assumes nothing.
-use mathlib.Core.Path.{◌≡◌, refl}
+use mathlib.Core.Path.{◌≡◌}
 use native.Mathlib.Omega.{arith}
 use Rattle.html.proofs.OutLaws.{times_more}
 use lib.ListN.{length-set}

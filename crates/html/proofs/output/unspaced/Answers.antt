@@ -1,6 +1,6 @@
 -- `unspaced` meets its contract. The spaces passed are those that go.
 -- Assumes nothing.
-use mathlib.Core.Path.{refl, sym, ap, ◌∙◌}
+use mathlib.Core.Path.{sym, ap, ◌∙◌}
 use native.Mathlib.Omega.{arith}
 use Rattle.html.proofs.OutLaws.{spaces_more, spaces_stop, out_none}
 use Rattle.text.specs.Words.{drop_while, is}

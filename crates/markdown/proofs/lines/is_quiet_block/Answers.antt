@@ -1,7 +1,7 @@
 -- `markdown::lines::is_quiet_block` meets its contract. The loop's invariant: whether the first k bytes of the block are quiet.
 -- Assumes nothing.
 use native.Mathlib.Omega.{arith}
-use mathlib.Core.Path.{◌≡◌, refl, ◌∙◌}
+use mathlib.Core.Path.{◌≡◌, ◌∙◌}
 use Rattle.text.proofs.RunLaws.{block_next}
 use Rattle.markdown.specs.Parts.{quiet}
 use Rattle.markdown.proofs.lines.is_quiet_block.Goals as goal

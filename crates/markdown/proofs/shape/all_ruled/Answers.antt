@@ -4,7 +4,7 @@ use Rattle.markdown.proofs.RuleLaws.{ruled, ruled_next, ruled_stop, ruled_run}
 use Rattle.text.specs.Words.{all}
 use lib.ListN.{drop, drop_of_length-le}
 use native.Mathlib.Omega.{arith}
-use mathlib.Core.Path.{◌≡◌, refl, sym, ap, ◌∙◌}
+use mathlib.Core.Path.{◌≡◌, sym, ap, ◌∙◌}
 use Prim.Native.Nat.{◌+◌}
 use Rattle.markdown.proofs.shape.all_ruled.Goals as goal
 use Rattle.markdown.proofs.shape.all_ruled.Goals.{Else-not-is_ruled}

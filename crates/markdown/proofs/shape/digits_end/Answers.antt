@@ -2,7 +2,6 @@
 -- Assumes nothing.
 use Rattle.text.specs.Chars.{is_digit}
 use Rattle.text.proofs.RunLaws.{at_start, past_one, at_stop, at_end}
-use native.Mathlib.Omega.{arith}
 use mathlib.Core.Path.{sym, ◌∙◌}
 use Rattle.markdown.proofs.shape.digits_end.Goals as goal
 

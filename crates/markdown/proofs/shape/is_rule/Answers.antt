@@ -3,7 +3,7 @@
 use Rattle.markdown.proofs.RuleLaws.{rule_short, rule_not, rule_is, ruled_next, ruled_stop, marks_none, marks_some, mark_ruled, rule_marked}
 use lib.ListN.{get_or, drop_of_length-le}
 use native.Mathlib.Omega.{arith}
-use mathlib.Core.Path.{refl, sym, ◌∙◌}
+use mathlib.Core.Path.{sym, ◌∙◌}
 use mathlib.Core.Bool.{false}
 use Rattle.markdown.proofs.shape.is_rule.Goals as goal
 

@@ -1,7 +1,7 @@
 -- `markdown::shape::is_ruled_block` meets its contract. The loop's invariant: whether the first k bytes of the block are ruled.
 -- Assumes nothing.
 use native.Mathlib.Omega.{arith}
-use mathlib.Core.Path.{◌≡◌, refl, ◌∙◌}
+use mathlib.Core.Path.{◌≡◌, ◌∙◌}
 use Rattle.text.proofs.RunLaws.{block_next}
 use Rattle.markdown.proofs.RuleLaws.{ruled}
 use Rattle.markdown.proofs.shape.is_ruled_block.Goals as goal

@@ -1,7 +1,7 @@
 -- `text::is_ascii_word` meets its contract. The loop's invariant: whether the first k bytes of the block are ASCII.
 -- Assumes nothing.
 use native.Mathlib.Omega.{arith}
-use mathlib.Core.Path.{◌≡◌, refl, ◌∙◌}
+use mathlib.Core.Path.{◌≡◌, ◌∙◌}
 use Rattle.text.specs.Chars.{is_ascii}
 use Rattle.text.proofs.RunLaws.{block_next}
 use Rattle.text.proofs.ascii.is_ascii_word.Goals as goal

@@ -1,7 +1,7 @@
 -- `text::past_block` meets its contract.
 -- Assumes nothing.
 use native.Mathlib.Omega.{arith}
-use mathlib.Core.Path.{refl, sym, ◌∙◌}
+use mathlib.Core.Path.{sym, ◌∙◌}
 use Rattle.text.proofs.BesideLaws.{fit_same}
 use Rattle.text.proofs.beside.past_block.Goals as goal
 

@@ -2,7 +2,7 @@
 -- Assumes nothing.
 use Prim.Native.Nat.{◌+◌}
 use native.Mathlib.Omega.{arith}
-use mathlib.Core.Path.{refl, sym, ◌∙◌}
+use mathlib.Core.Path.{sym, ◌∙◌}
 use Rattle.text.specs.Chars.{is_ascii}
 use Rattle.text.specs.Utf8.{is_utf8}
 use Rattle.text.proofs.Laws.{Step, no_char, some_char, stuck, scalar_is}

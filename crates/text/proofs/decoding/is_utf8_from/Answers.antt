@@ -1,7 +1,7 @@
 -- `text::is_utf8_from` meets its contract. The loop's invariant: whether the part from i on is UTF-8 is whether what is left is.
 -- Assumes nothing.
 use native.Mathlib.Omega.{arith}
-use mathlib.Core.Path.{refl, sym, ◌∙◌}
+use mathlib.Core.Path.{sym, ◌∙◌}
 use Rattle.text.specs.Utf8.{is_utf8}
 use Rattle.text.proofs.Laws.{Step, advance_end, no_char, some_char, stuck, scalar_is}
 use Rattle.text.proofs.decoding.is_utf8_from.Goals as goal

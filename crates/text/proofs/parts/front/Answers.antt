@@ -1,7 +1,7 @@
 -- `text::front` meets its contract.
 -- Assumes nothing.
 use native.Mathlib.Omega.{arith}
-use mathlib.Core.Path.{refl, sym}
+use mathlib.Core.Path.{sym}
 use lib.Seq.{take_all, length-take-le}
 use Rattle.text.proofs.parts.front.Goals as goal
 

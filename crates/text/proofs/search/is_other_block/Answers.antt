@@ -1,7 +1,7 @@
 -- `text::is_other_block` meets its contract. The loop's invariant: whether the first k bytes of the block are others.
 -- Assumes nothing.
 use native.Mathlib.Omega.{arith}
-use mathlib.Core.Path.{◌≡◌, refl, ◌∙◌}
+use mathlib.Core.Path.{◌≡◌, ◌∙◌}
 use Rattle.text.specs.Run.{other}
 use Rattle.text.proofs.RunLaws.{block_next}
 use Rattle.text.proofs.search.is_other_block.Goals as goal

@@ -1,7 +1,7 @@
 -- `text::is_blank_block` meets its contract. The loop's invariant: whether the first k bytes of the block are ASCII spaces.
 -- Assumes nothing.
 use native.Mathlib.Omega.{arith}
-use mathlib.Core.Path.{◌≡◌, refl, ◌∙◌}
+use mathlib.Core.Path.{◌≡◌, ◌∙◌}
 use Rattle.text.specs.Trim.{is_blank}
 use Rattle.text.proofs.RunLaws.{block_next}
 use Rattle.text.proofs.trimming.is_blank_block.Goals as goal
