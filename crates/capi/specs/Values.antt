@@ -3,36 +3,26 @@
 use Rattle.std.specs.Prelude.{ℕ, ◌-◌, Bool}
 use Rattle.std.proofs.Math.Option.{Option, none, some}
 use Rattle.text.specs.Outcome.{Outcome, number, returned}
-use Rattle.html.specs.declared.Answer as H
-use Rattle.html.specs.Answers.{answer_number, answer_length}
-use Rattle.markdown.specs.declared.Answer as MA
-use Rattle.markdown.specs.Answers as M
 use Rattle.records.specs.Format.{bit}
 use Rattle.walker.specs.Answers.{Answer, at_end, refused, gives, BlockValues, Emphasis}
 use Rattle.walker.specs.Places.{HereValues}
-use Rattle.walker.specs.declared.Range.{Range}
+use Rattle.text.specs.declared.parts.Part as T
 use Rattle.sheet.specs.Calls as S
 use Rattle.sheet.specs.Calls.{no_utf8, no_sheet, yes_sheet}
-use Rattle.capi.specs.declared.Written.{Written}
-use Rattle.capi.specs.declared.BlockAt.{BlockAt}
-use Rattle.capi.specs.declared.SpanAt.{SpanAt}
-use Rattle.capi.specs.declared.FirstAt.{FirstAt}
-use Rattle.capi.specs.declared.HereAt.{HereAt}
-use Rattle.capi.specs.declared.Part.{Part}
-use Rattle.capi.specs.declared.SectionAt.{SectionAt}
-use Rattle.capi.specs.declared.Tested.{Tested}
+use Rattle.capi.specs.declared.values.Written.{Written}
+use Rattle.capi.specs.declared.values.BlockAt.{BlockAt}
+use Rattle.capi.specs.declared.values.SpanAt.{SpanAt}
+use Rattle.capi.specs.declared.values.FirstAt.{FirstAt}
+use Rattle.capi.specs.declared.values.HereAt.{HereAt}
+use Rattle.capi.specs.declared.values.Part.{Part}
+use Rattle.capi.specs.declared.values.SectionAt.{SectionAt}
+use Rattle.capi.specs.declared.values.Tested.{Tested}
 
 abbrev pub written_of : ℕ → ℕ → Written
 written_of number length = record { number = number; length = length }
 
 abbrev pub written_struct : Outcome → Written
 written_struct o = written_of (number o) (returned o)
-
-abbrev pub page_struct : H.Answer → Written
-page_struct a = written_of (answer_number a) (answer_length a)
-
-abbrev pub markdown_struct : MA.Answer → Written
-markdown_struct a = written_of (M.answer_number a) (M.answer_length a)
 
 abbrev pub or_0 : Option ℕ → ℕ
 or_0 none = 0
@@ -81,10 +71,10 @@ here_struct (gives v) =
     }
 
 -- a part by its length
-abbrev pub part_struct : Range → Part
+abbrev pub part_struct : T.Part → Part
 part_struct r = record { start = r.start; length = r.end - r.start }
 
-abbrev pub section_struct : Answer (Option Range) → SectionAt
+abbrev pub section_struct : Answer (Option T.Part) → SectionAt
 section_struct at_end = record { number = 0; found = 0; start = 0; length = 0 }
 section_struct (refused n) = record { number = n; found = 0; start = 0; length = 0 }
 section_struct (gives none) = record { number = 0; found = 0; start = 0; length = 0 }

@@ -18,9 +18,10 @@ use Rattle.text.specs.Outcome.{Outcome, refused, wrote, number, returned, front,
 use Rattle.text.proofs.Tests.{on}
 use Rattle.html.specs.Page.{html_to_markdown}
 use Rattle.html.specs.Calls.{converted, with_buffers, html_to_markdown_call}
-use Rattle.html.specs.Answers.{answer_number, answer_length}
-use Rattle.html.specs.declared.Answer.{Answer}
-use Rattle.html.specs.declared.Answer.TheVariants.{Length, NotUtf8, SmallWork, SmallResult, TooManyLists}
+use Rattle.std.specs.Prelude.{Result, Ok, Err}
+use Rattle.html.specs.Answers.{error_number, answer_number, answer_length}
+use Rattle.html.specs.declared.PageError.{PageError}
+use Rattle.html.specs.declared.PageError.TheVariants.{NotUtf8, SmallWork, SmallResult, TooManyLists}
 use Rattle.filter.specs.Program.{refusal, outcome_text, page_text, program_text}
 
 -- ---- what is stored from the first byte on is the front
@@ -73,19 +74,20 @@ wrote_is : (o : Outcome) → Numbered o → number o ≡ 0 → o ≡ wrote (writ
 wrote_is (refused n) h e = absurd (omega arith)
 wrote_is (wrote bs) h e = refl
 
--- ---- what an answer that is no length says
-abbrev pub No : Answer → Type 0
-No a = (n : ℕ) → a ≡ Length n → ⊥
+-- ---- what an error says
+pub few : (e : PageError) → error_number e ≤ 4
+few NotUtf8 = omega arith
+few SmallWork = omega arith
+few SmallResult = omega arith
+few TooManyLists = omega arith
 
-above_zero : (a : Answer) → No a → 0 < answer_number a
-above_zero (Length n) o = absurd (o n refl)
-above_zero NotUtf8 o = omega arith
-above_zero SmallWork o = omega arith
-above_zero SmallResult o = omega arith
-above_zero TooManyLists o = omega arith
+above_zero : (e : PageError) → 0 < error_number e
+above_zero NotUtf8 = omega arith
+above_zero SmallWork = omega arith
+above_zero SmallResult = omega arith
+above_zero TooManyLists = omega arith
 
-unchanged : (a : Answer) (result : List ℕ) → result_after (refused (answer_number a)) result ≡ result
-unchanged (Length n) result = refl
+unchanged : (e : PageError) (result : List ℕ) → result_after (refused (error_number e)) result ≡ result
 unchanged NotUtf8 result = refl
 unchanged SmallWork result = refl
 unchanged SmallResult result = refl
@@ -114,7 +116,7 @@ module _ (bs out : List ℕ) (b : ℕ) (h : length bs < length out) where
 abbrev pub the_call : List ℕ → Outcome
 the_call page = html_to_markdown_call page 49152 32000
 
-pub record Called (page out : List ℕ) (a : Answer) (last : List ℕ) : Type 0 where
+pub record Called (page out : List ℕ) (a : Result ℕ PageError) (last : List ℕ) : Type 0 where
   pub size : length out ≡ 32001
   pub kept : length last ≡ 32000
   pub numbered : answer_number a ≡ number (the_call page)
@@ -122,7 +124,7 @@ pub record Called (page out : List ℕ) (a : Answer) (last : List ℕ) : Type 0 
   pub left : last ≡ result_after (the_call page) (take 32000 out)
 
 -- from what `html_to_markdown` ensures
-pub called : (page out : List ℕ) (a : Answer) (last : List ℕ) → length out ≡ 32001 → length last ≡ length (take 32000 out)
+pub called : (page out : List ℕ) (a : Result ℕ PageError) (last : List ℕ) → length out ≡ 32001 → length last ≡ length (take 32000 out)
     → (answer_number a ≡ number (html_to_markdown_call page 49152 (length (take 32000 out))))
     × (answer_length a ≡ returned (html_to_markdown_call page 49152 (length (take 32000 out))))
     → last ≡ result_after (html_to_markdown_call page 49152 (length (take 32000 out))) (take 32000 out)
@@ -138,29 +140,29 @@ called page out a last z k e l =
       left = l ∙ ap (λ (o : Outcome). result_after o (take 32000 out)) q;
     }
 
-module _ (page out : List ℕ) (a : Answer) (last : List ℕ) (c : Called page out a last) where
-  module _ (no : No a) where
-    is_refused : the_call page ≡ refused (answer_number a)
-    is_refused = refused_is (the_call page) (answer_number a) c.numbered (above_zero a no)
+module _ (page out : List ℕ) (a : Result ℕ PageError) (last : List ℕ) (c : Called page out a last) where
+  module _ (e : PageError) (no : a ≡ Err e) where
+    is_refused : the_call page ≡ refused (error_number e)
+    is_refused = refused_is (the_call page) (error_number e) (sym (ap answer_number no) ∙ c.numbered) (above_zero e)
 
     as_before : last ++ drop 32000 out ≡ out
     as_before =
         ap (λ (l : List ℕ). l ++ drop 32000 out)
-        (c.left ∙ ap (λ (o : Outcome). result_after o (take 32000 out)) is_refused ∙ unchanged a (take 32000 out))
+        (c.left ∙ ap (λ (o : Outcome). result_after o (take 32000 out)) is_refused ∙ unchanged e (take 32000 out))
         ∙ take-append-drop 32000 out
 
-    pub refusal_stands : (n : ℕ) (after : List ℕ) → n ≡ length (refusal (answer_number a)) → after ≡ sets (last ++ drop 32000 out) 0 (refusal (answer_number a))
+    pub refusal_stands : (n : ℕ) (after : List ℕ) → n ≡ length (refusal (error_number e)) → after ≡ sets (last ++ drop 32000 out) 0 (refusal (error_number e))
         → (n ≡ length (page_text page)) × (after ≡ front (page_text page) out)
     refusal_stands n after l s =
         let z = c.size in (
           l ∙ ap (λ (o : Outcome). length (outcome_text o)) (sym is_refused),
           s
-              ∙ ap (λ (b : List ℕ). sets b 0 (refusal (answer_number a))) as_before
-              ∙ stored_front (refusal (answer_number a)) out (omega arith)
+              ∙ ap (λ (b : List ℕ). sets b 0 (refusal (error_number e))) as_before
+              ∙ stored_front (refusal (error_number e)) out (omega arith)
               ∙ ap (λ (o : Outcome). front (outcome_text o) out) (sym is_refused),
         )
 
-  module _ (n : ℕ) (yes : a ≡ Length n) where
+  module _ (n : ℕ) (yes : a ≡ Ok n) where
     markdown : List ℕ
     markdown = written (the_call page)
 

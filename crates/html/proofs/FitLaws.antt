@@ -10,7 +10,6 @@ use mathlib.Core.List.{List, [], ◌∷◌, ◌++◌, tail}
 use lib.Dec.{leb}
 use lib.ListN.{length, get_or, take, drop, replicate, take-append-drop}
 use borrow.Author.Tests.{leb-false}
-use mir.Val.{bool_byte}
 use Rattle.text.specs.Words.{case, str, repeat, is_empty, same, starts, find}
 use Rattle.text.specs.Utf8.{size}
 use Rattle.text.specs.Trim.{trim}
@@ -21,11 +20,13 @@ use Rattle.text.proofs.Utf8.{utf8_1}
 use Rattle.text.proofs.Laws.{size_append, size_aux}
 use Rattle.html.specs.State.{State, new, with_lists, with_skip, push_str, block, newline, marks, list_changed, item, heading, tag, tag_of, text}
 use Rattle.html.specs.Page.{listed, shown, skipped, element, inside, words, Turn, read, refused, tag_read, comment, a_tag, markup, turn}
-use Rattle.html.specs.Struct.{tag_means, step_means, list_tag}
+use Rattle.html.specs.Struct.{tag_means, step_means, list_tag, first_number}
 use Rattle.text.proofs.AsciiLaws.{size_ascii}
 use Rattle.html.specs.Names.{says}
 use Rattle.html.specs.declared.Tag.{Tag}
-use Rattle.html.specs.declared.Tag.TheVariants.{Listing, Skipped, Writes}
+use Rattle.html.specs.declared.Tag.TheVariants.{List as Lists, Skipped, Writes}
+use Rattle.html.specs.declared.ListKind.{ListKind}
+use Rattle.html.specs.declared.ListKind.TheVariants.{Unordered, Ordered}
 use Rattle.html.specs.declared.Step.{Step}
 use Rattle.html.specs.declared.Step.TheVariants.{Heading, Block, Pre, Break, Item, Row, Cell, Strong, Emphasis, Code, Other}
 use Rattle.html.proofs.NumberLaws.{decimal_few}
@@ -200,12 +201,12 @@ list_fit n first false c h f =
     on (Gives (Fit (n + 149))) (leb 64 (length c.lists)) (λ _. tt)
     (λ e. let q = leb-false 64 (length c.lists) e in changed_fit n (first ∷ c.lists) c (omega arith) (cons_small (kept c.out) first c.lists h f.small) f.short)
 
-first_most : (ordered : Bool) → bool_byte ordered ≤ 1
-first_most true = omega arith
-first_most false = omega arith
+first_most : (kind : ListKind) → first_number kind ≤ 1
+first_most Ordered = omega arith
+first_most Unordered = omega arith
 
 tag_fit : (n : ℕ) (t : Tag) (closing : Bool) (c : State) → Fit n c → get_or c.lists 0 0 < 2 ^ 64 → Gives (Fit (n + 149)) (listed (tag_means t) closing c)
-tag_fit n (Listing o) closing c f b = subst (Gives (Fit (n + 149))) (listed_list o closing c) (list_fit n (bool_byte o) closing c (first_most o) f)
+tag_fit n (Lists o) closing c f b = subst (Gives (Fit (n + 149))) (listed_list o closing c) (list_fit n (first_number o) closing c (first_most o) f)
 tag_fit n (Skipped k) closing c f b = subst (Gives (Fit (n + 149))) (listed_other closing c) (stays n c f 149)
 tag_fit n (Writes t) closing c f b = subst (Gives (Fit (n + 149))) (listed_step t closing c) (step_fit n t closing c f b)
 

@@ -19,7 +19,7 @@ use Rattle.text.proofs.AsciiLaws.{size_ascii, ascii_append}
 use Rattle.html.specs.State.{State, push_str, line_start, block, newline, spaced, marks}
 use Rattle.html.specs.Struct.{state_of, out_of}
 use Rattle.text.specs.Chars.{Ascii}
-use Rattle.html.specs.declared.Converter.{Converter}
+use Rattle.html.specs.declared.converter.Converter.{Converter}
 use Rattle.html.proofs.OutLaws.{size_out}
 
 -- how long the output is: by the state, and after a step that makes it at most k longer
@@ -68,9 +68,6 @@ size_spaces (b ∷ o) = let h = size_spaces o in on (λ (l : List ℕ). size l �
 -- either of two states
 abbrev Most : ℕ → State → Type 0
 Most n c = size c.out ≤ n
-
-pub unspaced_most : (m n : ℕ) (w : List ℕ) → out_of n w ≡ drop_while (is " ") (out_of m w) → n ≤ m
-unspaced_most m n w e = omega (arith, size_out n w, size_out m w, ap size e, size_spaces (out_of m w))
 
 pub grow_block : (c : State) → size (block c).out ≤ size c.out + 2
 unfolding block size

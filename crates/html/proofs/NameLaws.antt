@@ -6,15 +6,15 @@ use native.Mathlib.Omega.{arith}
 use native.Mathlib.Nat.{pow-suc, pow-le-pow_right}
 use native.Mathlib.Numerals.{add-one}
 use mathlib.Core.Path.{◌≡◌, refl, sym, ap, ap₂, ◌∙◌}
-use mathlib.Core.Bool.{Bool, true, false, cond, ◌&&◌, ◌||◌}
+use mathlib.Core.Bool.{Bool, true, false, cond, not, ◌&&◌, ◌||◌}
 use mathlib.Core.Logic.{⊎_elim}
 use mathlib.Core.Option.{some}
 use mathlib.Core.List.{List, [], ◌∷◌, map, reverse, reverse_aux, reverse-reverse}
 use lib.Dec.{eqb, leb, ltb}
 use lib.ListN.{length, get_or, drop, drop_of_length-le}
 use lib.Seq.{drop-cons}
-use borrow.Author.Tests.{eq-eqb, ne_eqb, eqb-true, ltb-true, ltb-false, le-leb, lt-leb, leb-true, leb-false}
-use Rattle.std.specs.Prelude.{if◌then◌else◌}
+use borrow.Author.Tests.{eq-eqb, ne_eqb, ltb-true, ltb-false, le-leb, lt-leb, leb-true, leb-false, not-true}
+use Rattle.std.specs.Prelude.{Some, None, if◌then◌else◌}
 use Rattle.text.specs.Words.{case, str, all, same, lookup, take_while}
 use Rattle.text.specs.Chars.{within, is_alphanumeric, is_digit, to_lower}
 use Rattle.text.specs.Utf8.{chars}
@@ -25,42 +25,13 @@ use Rattle.html.specs.State as state
 use Rattle.html.specs.State.{tags, tag_of, other}
 use Rattle.html.specs.Struct.{tag_means}
 use Rattle.html.specs.Page.{name_of}
-use Rattle.html.specs.Names.{folded, digits, key, Rows, find, writing, table, says, tag_skip, skip_no}
-use Rattle.html.specs.declared.Skip.TheVariants.{Script, Style}
+use Rattle.html.specs.Names.{folded, digits, key, Rows, find, writing, table, says}
+use Rattle.html.specs.declared.Skipped.TheVariants.{Script, Style}
 use Rattle.html.specs.declared.Tag.{Tag}
-use Rattle.html.specs.declared.Tag.TheVariants.{Skipped, Writes}
+use Rattle.html.specs.declared.Tag.TheVariants.{List as Lists, Skipped, Writes}
 use Rattle.html.specs.declared.Step.TheVariants.{Other}
 
--- ---- a byte in lower case
-pub folded_digit : (b : ℕ) → 48 ≤ b → b < 58 → b ≡ folded b
-unfolding folded
-folded_digit b l h = simp (le-leb 48 b l, le-leb b 57 (omega arith), lt-leb 65 b (omega arith))
-
-pub folded_upper : (b : ℕ) → 65 ≤ b → b < 91 → b + 32 ≡ folded b
-unfolding folded
-folded_upper b l h = simp (le-leb 48 b (omega arith), lt-leb b 57 (omega arith), le-leb 65 b l, le-leb b 90 (omega arith))
-
-pub folded_lower : (b : ℕ) → 97 ≤ b → b < 123 → b ≡ folded b
-unfolding folded
-folded_lower b l h = simp (le-leb 48 b (omega arith), lt-leb b 57 (omega arith), le-leb 65 b (omega arith), lt-leb b 90 (omega arith), le-leb 97 b l, le-leb b 122 (omega arith))
-
-pub folded_low : (b : ℕ) → b < 48 → 0 ≡ folded b
-unfolding folded
-folded_low b h = simp (lt-leb 48 b h, lt-leb 65 b (omega arith), lt-leb 97 b (omega arith))
-
-pub folded_mid : (b : ℕ) → 58 ≤ b → b < 65 → 0 ≡ folded b
-unfolding folded
-folded_mid b l h = simp (le-leb 48 b (omega arith), lt-leb b 57 (omega arith), lt-leb 65 b h, lt-leb 97 b (omega arith))
-
-pub folded_gap : (b : ℕ) → 91 ≤ b → b < 97 → 0 ≡ folded b
-unfolding folded
-folded_gap b l h = simp (le-leb 48 b (omega arith), lt-leb b 57 (omega arith), le-leb 65 b (omega arith), lt-leb b 90 (omega arith), lt-leb 97 b h)
-
-pub folded_high : (b : ℕ) → 123 ≤ b → 0 ≡ folded b
-unfolding folded
-folded_high b l = simp (le-leb 48 b (omega arith), lt-leb b 57 (omega arith), le-leb 65 b (omega arith), lt-leb b 90 (omega arith), le-leb 97 b (omega arith), lt-leb b 122 (omega arith))
-
--- ---- one byte: a letter or digit goes on, folded is not 0
+-- ---- one byte: a letter or digit goes on
 name_cons : (b : ℕ) (s : List ℕ) → name_of (b ∷ s) ≡ cond (is_alphanumeric b) (to_lower b ∷ name_of s) []
 unfolding take_while
 name_cons b s = go (is_alphanumeric b)
@@ -78,20 +49,23 @@ lower_within b e =
     (λ l. or_elim (within 65 90 b) (within 97 122 b) (λ v. let y : true ≡ false = sym v ∙ u in cc) (λ v. let h = within_true 97 122 b v in within_is 48 122 b (omega arith) (omega arith)) l)
     e)
 
-fold_no : (b : ℕ) (s : List ℕ) → folded b ≡ 0 → name_of (b ∷ s) ≡ []
+fold_no : (b : ℕ) (s : List ℕ) → folded b ≡ None → name_of (b ∷ s) ≡ []
 unfolding folded
 fold_no b s e =
     ⊎_elim
-    (λ t. let l = within_true 48 122 (to_lower b) (lower_within b t) in absurd (omega (arith, rw t at e)))
+    (λ t. let f : Some (to_lower b) ≡ None = rw t at e in cc)
     (λ t. name_cons b s ∙ rw t)
     (decide (is_alphanumeric b))
 
-fold_yes : (b : ℕ) (s : List ℕ) → (folded b ≡ 0 → ⊥) → name_of (b ∷ s) ≡ folded b ∷ name_of s
+fold_yes : (b x : ℕ) (s : List ℕ) → folded b ≡ Some x → name_of (b ∷ s) ≡ x ∷ name_of s
 unfolding folded
-fold_yes b s n =
+fold_yes b x s e =
     ⊎_elim
-    (λ t. name_cons b s ∙ rw t)
-    (λ t. absurd (n (rw t)))
+    (λ t.
+    let f : Some (to_lower b) ≡ Some x = rw t at e in
+    let g : to_lower b ≡ x = cc in
+    name_cons b s ∙ rw t (ap (λ (y : ℕ). y ∷ name_of s) g))
+    (λ t. let f : None ≡ Some x = rw t at e in cc)
     (decide (is_alphanumeric b))
 
 name_nil : name_of [] ≡ []
@@ -102,11 +76,11 @@ name_nil = refl
 pub name_end : (s : List ℕ) (i : ℕ) → length s ≤ i → name_of (drop i s) ≡ []
 name_end s i h = rw (drop_of_length-le s h) name_nil
 
-pub name_stop : (s : List ℕ) (i : ℕ) → i < length s → folded (get_or s i 0) ≡ 0 → name_of (drop i s) ≡ []
+pub name_stop : (s : List ℕ) (i : ℕ) → i < length s → folded (get_or s i 0) ≡ None → name_of (drop i s) ≡ []
 name_stop s i h e = rw (drop-cons s i 0 h) (fold_no _ _ e)
 
-name_more : (s : List ℕ) (i : ℕ) → i < length s → (folded (get_or s i 0) ≡ 0 → ⊥) → name_of (drop i s) ≡ folded (get_or s i 0) ∷ name_of (drop (i + 1) s)
-name_more s i h e = rw (drop-cons s i 0 h, add-one i) (fold_yes _ _ e)
+pub name_more : (s : List ℕ) (i x : ℕ) → i < length s → folded (get_or s i 0) ≡ Some x → name_of (drop i s) ≡ x ∷ name_of (drop (i + 1) s)
+name_more s i x h e = rw (drop-cons s i 0 h, add-one i) (fold_yes _ x _ e)
 
 -- ---- the name as a number
 abbrev all_digits : List ℕ → Bool
@@ -118,12 +92,15 @@ name_digits (b ∷ s) =
     rw (name_cons b s)
     (on (λ (n : List ℕ). all_digits n ≡ true) (is_alphanumeric b) (λ t. rw (lower_within b t) (name_digits s)) (λ _. refl))
 
-folded_within : (b : ℕ) → (folded b ≡ 0 → ⊥) → (48 ≤ folded b) × (folded b ≤ 122)
+folded_within : (b x : ℕ) → folded b ≡ Some x → (48 ≤ x) × (x ≤ 122)
 unfolding folded
-folded_within b n =
+folded_within b x e =
     ⊎_elim
-    (λ t. rw t (within_true 48 122 (to_lower b) (lower_within b t)))
-    (λ t. absurd (n (rw t)))
+    (λ t.
+    let f : Some (to_lower b) ≡ Some x = rw t at e in
+    let g : to_lower b ≡ x = cc in
+    rw (← g) (within_true 48 122 (to_lower b) (lower_within b t)))
+    (λ t. let f : None ≡ Some x = rw t at e in cc)
     (decide (is_alphanumeric b))
 
 -- its digits, the last one first
@@ -157,27 +134,26 @@ digits_is n p h k e =
     ∙ ap reverse (val_is (reverse n) (reverse p) (digits_aux n [] h refl) (digits_aux p [] k refl) (sym (digits_val n []) ∙ e ∙ digits_val p []))
     ∙ reverse-reverse p
 
-key_short : (n : List ℕ) → length n ≤ 10 → key n ≡ digits 0 n
+key_short : (n : List ℕ) → length n ≤ 10 → key n ≡ Some (digits 0 n)
 unfolding key
 key_short n h = rw (le-leb (length n) 10 h)
 
-key_long : (n : List ℕ) → 10 < length n → key n ≡ 0
+key_long : (n : List ℕ) → 10 < length n → key n ≡ None
 unfolding key
 key_long n h = rw (lt-leb (length n) 10 h)
 
--- a name that has a number of its own
+-- a name of a table
 abbrev short : List ℕ → Bool
-short p = all_digits p && within 1 10 (length p)
+short p = all_digits p && leb (length p) 10
 
-key_is : (p n : List ℕ) → short p ≡ true → all_digits n ≡ true → key p ≡ key n → p ≡ n
+key_is : (p n : List ℕ) → short p ≡ true → all_digits n ≡ true → key n ≡ Some (digits 0 p) → p ≡ n
 key_is p n h k e =
-    let d = and_true (all_digits p) (within 1 10 (length p)) h in
-    let l = within_true 1 10 (length p) d.1 in
+    let d = and_true (all_digits p) (leb (length p) 10) h in
     ⊎_elim
-    (λ t. digits_is p n d.0 k (sym (key_short p l.1) ∙ e ∙ key_short n (leb-true (length n) 10 t)))
     (λ t.
-    let z = digits_is p [] d.0 refl (sym (key_short p l.1) ∙ e ∙ key_long n (leb-false (length n) 10 t)) in
-    absurd (omega (arith, ap length z)))
+    let f : Some (digits 0 p) ≡ Some (digits 0 n) = sym e ∙ key_short n (leb-true (length n) 10 t) in
+    digits_is p n d.0 k (cc))
+    (λ t. let f : Some (digits 0 p) ≡ None = sym e ∙ key_long n (leb-false (length n) 10 t) in cc)
     (decide (leb (length n) 10))
 
 -- ---- the number byte by byte
@@ -195,25 +171,22 @@ pub record Next (s : List ℕ) (k i b : ℕ) : Type 0 where
   pub fits : k * 76 + (b - 47) < 2 ^ 64
   pub keyed : Keyed s (k * 76 + (b - 47)) (i + 1)
 
-pub keyed_none : (s : List ℕ) → Keyed s 0 0
-keyed_none s = record { few = omega arith; small = omega arith; left = refl; long = omega arith }
-
 module _ (s : List ℕ) (k i : ℕ) (t : Keyed s k i) where
-  pub keyed_all : name_of (drop i s) ≡ [] → k ≡ key (name_of s)
+  pub keyed_all : name_of (drop i s) ≡ [] → Some k ≡ key (name_of s)
   keyed_all e =
       let l : length (name_of s) ≤ 10 = omega (arith, t.few, t.long, ap length e) in
-      sym (key_short (name_of s) l ∙ sym t.left ∙ ap (digits k) e)
+      sym (key_short (name_of s) l ∙ ap Some (sym t.left ∙ ap (digits k) e))
 
-  module _ (b : ℕ) (h : i < length s) (e : b ≡ folded (get_or s i 0)) (n : b ≡ 0 → ⊥) where
+  module _ (b : ℕ) (h : i < length s) (e : folded (get_or s i 0) ≡ Some b) where
     more : name_of (drop i s) ≡ b ∷ name_of (drop (i + 1) s)
-    more = rw e (name_more s i h (λ z. n (e ∙ z)))
+    more = name_more s i b h e
 
-    pub keyed_over : i ≡ 10 → 0 ≡ key (name_of s)
+    pub keyed_over : i ≡ 10 → None ≡ key (name_of s)
     keyed_over q = sym (key_long (name_of s) (omega (arith, t.long, ap length more)))
 
     pub keyed_next : (i ≡ 10 → ⊥) → Next s k i b
     keyed_next q =
-        let d : (48 ≤ b) × (b ≤ 122) = rw e (folded_within (get_or s i 0) (λ z. n (e ∙ z))) in
+        let d = folded_within (get_or s i 0) b e in
         let few : i + 1 ≤ 10 = omega (arith, t.few) in
         let less : k * 76 + (b - 47) < 76 ^ (i + 1) = rw (add-one i, pow-suc 76 i) (omega (arith, t.small)) in
         let most : 76 ^ (i + 1) ≤ 76 ^ 10 = pow-le-pow_right (omega arith) {i = i + 1} {j = 10} few in
@@ -225,55 +198,79 @@ module _ (s : List ℕ) (k i : ℕ) (t : Keyed s k i) where
         }
 
 -- ---- what a table says by that number
-same_key : (p n : List ℕ) → short p ≡ true → all_digits n ≡ true → same p n ≡ eqb (key p) (key n)
-same_key p n h k = go (same p n) refl
+same_key : (p n : List ℕ) (k : ℕ) → short p ≡ true → all_digits n ≡ true → key n ≡ Some k → same p n ≡ eqb (digits 0 p) k
+same_key p n k h d e = go (same p n) refl
   where
-    go : (t : Bool) → same p n ≡ t → t ≡ eqb (key p) (key n)
-    go true e = sym (eq-eqb (key p) (key n) (ap key (same_true p n e)))
-    go false e = sym (ne_eqb (key p) (key n) (λ q. let y : true ≡ false = sym (same_self p) ∙ ap (same p) (key_is p n h k q) ∙ e in let z : ◌≡◌ {A = ℕ} 0 1 = cc in omega arith))
+    go : (t : Bool) → same p n ≡ t → t ≡ eqb (digits 0 p) k
+    go true q =
+        let l = leb-true (length p) 10 (and_true (all_digits p) (leb (length p) 10) h).1 in
+        let f : Some (digits 0 p) ≡ Some k = sym (key_short p l) ∙ ap key (same_true p n q) ∙ e in
+        sym (eq-eqb (digits 0 p) k (cc))
+    go false q = sym (ne_eqb (digits 0 p) k (λ g. let y : true ≡ false = sym (same_self p) ∙ ap (same p) (key_is p n h d (e ∙ ap Some (sym g))) ∙ q in cc))
+
+same_long : (p n : List ℕ) → short p ≡ true → key n ≡ None → same p n ≡ false
+same_long p n h e = go (same p n) refl
+  where
+    go : (t : Bool) → same p n ≡ t → t ≡ false
+    go true q =
+        let l = leb-true (length p) 10 (and_true (all_digits p) (leb (length p) 10) h).1 in
+        let f : Some (digits 0 p) ≡ None = sym (key_short p l) ∙ ap key (same_true p n q) ∙ e in
+        cc
+    go false q = refl
 
 abbrev pub found : Rows → ℕ → Tag
 found [] k = Writes Other
-found (r ∷ rows) k = let later = found rows k in if eqb (key (str r.0)) k then r.1 else later
+found (r ∷ rows) k = let later = found rows k in if eqb (digits 0 (str r.0)) k then r.1 else later
 
 abbrev all_short : Rows → Bool
 all_short [] = true
 all_short (r ∷ rows) = short (str r.0) && all_short rows
 
-find_key : (rows : Rows) (n : List ℕ) → all_short rows ≡ true → all_digits n ≡ true → find rows n ≡ found rows (key n)
+find_key : (rows : Rows) (n : List ℕ) (k : ℕ) → all_short rows ≡ true → all_digits n ≡ true → key n ≡ Some k → find rows n ≡ found rows k
 unfolding find
-find_key [] n h k = refl
-find_key (r ∷ rows) n h k =
+find_key [] n k h d e = refl
+find_key (r ∷ rows) n k h d e =
     let p = and_true (short (str r.0)) (all_short rows) h in
-    rw (same_key (str r.0) n p.0 k) (go (eqb (key (str r.0)) (key n)) (find_key rows n p.1 k))
+    rw (same_key (str r.0) n k p.0 d e) (go (eqb (digits 0 (str r.0)) k) (find_key rows n k p.1 d e))
   where
-    go : (t : Bool) → find rows n ≡ found rows (key n) → case (if t then some r.1 else lookup rows n) (Writes Other) (λ x. x) ≡ (if t then r.1 else found rows (key n))
+    go : (t : Bool) → find rows n ≡ found rows k → case (if t then some r.1 else lookup rows n) (Writes Other) (λ x. x) ≡ (if t then r.1 else found rows k)
     go true e = refl
     go false e = e
 
-says_key : (s : List ℕ) (k : ℕ) → k ≡ key (name_of s) → says (name_of s) ≡ found table k
-unfolding table says writing tags key
-says_key s k e = find_key table (name_of s) refl (name_digits s) ∙ ap (found table) (sym e)
+find_long : (rows : Rows) (n : List ℕ) → all_short rows ≡ true → key n ≡ None → find rows n ≡ Writes Other
+unfolding find
+find_long [] n h e = refl
+find_long (r ∷ rows) n h e =
+    let p = and_true (short (str r.0)) (all_short rows) h in
+    rw (same_long (str r.0) n p.0 e) (find_long rows n p.1 e)
 
-pub says_found : (s : List ℕ) {k j : ℕ} → k ≡ key (name_of s) → k ≡ j → found table j ≡ says (name_of s)
+says_key : (s : List ℕ) (k : ℕ) → key (name_of s) ≡ Some k → says (name_of s) ≡ found table k
+unfolding table says writing tags
+says_key s k e = find_key table (name_of s) k refl (name_digits s) e
+
+pub says_found : (s : List ℕ) {k j : ℕ} → key (name_of s) ≡ Some k → k ≡ j → found table j ≡ says (name_of s)
 says_found s {k} e h = sym (says_key s k e ∙ ap (found table) h)
+
+pub says_long : (s : List ℕ) → key (name_of s) ≡ None → Writes Other ≡ says (name_of s)
+unfolding table says writing tags
+says_long s e = sym (find_long table (name_of s) refl e)
 
 -- k is the number of no row, in the shape that a `match` leaves
 abbrev pub Missed : Rows → ℕ → Type 0 → Type 0
 Missed [] k X = X
-Missed (r ∷ rows) k X = Missed rows k (X × (k ≡ key (str r.0) → ⊥))
+Missed (r ∷ rows) k X = Missed rows k (X × (k ≡ digits 0 (str r.0) → ⊥))
 
 missed_first : (rows : Rows) (k : ℕ) (X : Type 0) → Missed rows k X → X
 missed_first [] k X m = m
-missed_first (r ∷ rows) k X m = (missed_first rows k (X × (k ≡ key (str r.0) → ⊥)) m).0
+missed_first (r ∷ rows) k X m = (missed_first rows k (X × (k ≡ digits 0 (str r.0) → ⊥)) m).0
 
 found_none : (rows : Rows) (k : ℕ) (X : Type 0) → Missed rows k X → found rows k ≡ Writes Other
 found_none [] k X m = refl
 found_none (r ∷ rows) k X m =
-    let Y = X × (k ≡ key (str r.0) → ⊥) in
-    rw (ne_eqb (key (str r.0)) k (λ e. (missed_first rows k Y m).1 (sym e))) (found_none rows k Y m)
+    let Y = X × (k ≡ digits 0 (str r.0) → ⊥) in
+    rw (ne_eqb (digits 0 (str r.0)) k (λ e. (missed_first rows k Y m).1 (sym e))) (found_none rows k Y m)
 
-pub says_none : (s : List ℕ) {k : ℕ} → k ≡ key (name_of s) → Missed table k Unit → Writes Other ≡ says (name_of s)
+pub says_none : (s : List ℕ) {k : ℕ} → key (name_of s) ≡ Some k → Missed table k Unit → Writes Other ≡ says (name_of s)
 says_none s {k} e m = sym (says_key s k e ∙ found_none table k Unit m)
 
 -- ---- what the name means in notes.rs
@@ -319,31 +316,42 @@ says_means n =
     ∙ on (λ (x : Tag). tag_means x ≡ tag_of n) (same (str "script") n) (λ e. rw (← same_true (str "script") n e) script_other)
     (λ _. on (λ (x : Tag). tag_means x ≡ tag_of n) (same (str "style") n) (λ e. rw (← same_true (str "style") n e) style_other) (λ _. writing_means n))
 
--- the skipped tag that it is
-abbrev plain : Rows → Bool
-plain [] = true
-plain (r ∷ rows) = eqb (skip_no (tag_skip r.1)) 0 && plain rows
+-- ---- the two names whose text is skipped
+abbrev pub is_skipped : Tag → Bool
+is_skipped (Lists k) = false
+is_skipped (Skipped k) = true
+is_skipped (Writes t) = false
 
-find_plain : (rows : Rows) (n : List ℕ) → plain rows ≡ true → skip_no (tag_skip (find rows n)) ≡ 0
+abbrev none_skipped : Rows → Bool
+none_skipped [] = true
+none_skipped (r ∷ rows) = not (is_skipped r.1) && none_skipped rows
+
+find_shown : (rows : Rows) (n : List ℕ) → none_skipped rows ≡ true → is_skipped (find rows n) ≡ false
 unfolding find
-find_plain [] n h = refl
-find_plain (r ∷ rows) n h =
-    let p = and_true (eqb (skip_no (tag_skip r.1)) 0) (plain rows) h in
-    go (same (str r.0) n) (eqb-true (skip_no (tag_skip r.1)) 0 p.0) (find_plain rows n p.1)
+find_shown [] n h = refl
+find_shown (r ∷ rows) n h =
+    let p = and_true (not (is_skipped r.1)) (none_skipped rows) h in
+    go (same (str r.0) n) (not-true (is_skipped r.1) p.0) (find_shown rows n p.1)
   where
-    go : (t : Bool) → skip_no (tag_skip r.1) ≡ 0 → skip_no (tag_skip (find rows n)) ≡ 0
-        → skip_no (tag_skip (case (if t then some r.1 else lookup rows n) (Writes Other) (λ x. x))) ≡ 0
+    go : (t : Bool) → is_skipped r.1 ≡ false → is_skipped (find rows n) ≡ false
+        → is_skipped (case (if t then some r.1 else lookup rows n) (Writes Other) (λ x. x)) ≡ false
     go true a b = a
     go false a b = b
 
-pub says_skip : (n : List ℕ) → skip_no (tag_skip (says n)) ≡ (if same (str "script") n then 1 else if same (str "style") n then 2 else 0)
+-- which of the two a name is, and what it says
+pub data Is (n : List ℕ) (t : Tag) : Type 0 where
+  script : n ≡ str "script" → t ≡ Skipped Script → Is n t
+  style : n ≡ str "style" → t ≡ Skipped Style → Is n t
+  neither : same (str "script") n ≡ false → same (str "style") n ≡ false → is_skipped t ≡ false → Is n t
+
+pub is_of : (n : List ℕ) → Is n (says n)
 unfolding writing tags
-says_skip n = ap (λ (x : Tag). skip_no (tag_skip x)) (says_first n) ∙ go (same (str "script") n) (same (str "style") n) (find_plain writing n refl)
+is_of n = go (same (str "script") n) refl (same (str "style") n) refl
   where
-    go : (a b : Bool) → skip_no (tag_skip (find writing n)) ≡ 0 → skip_no (tag_skip (if a then Skipped Script else if b then Skipped Style else find writing n)) ≡ (if a then 1 else if b then 2 else 0)
-    go true b e = refl
-    go false true e = refl
-    go false false e = e
+    go : (a : Bool) → same (str "script") n ≡ a → (b : Bool) → same (str "style") n ≡ b → Is n (says n)
+    go true p b q = script (sym (same_true (str "script") n p)) (says_first n ∙ rw p)
+    go false p true q = style (sym (same_true (str "style") n q)) (says_first n ∙ rw (p, q))
+    go false p false q = neither p q (ap is_skipped (says_first n ∙ rw (p, q)) ∙ find_shown writing n refl)
 
 -- ---- in bytes as in characters
 alphanumeric_high : (c : ℕ) → 0x80 ≤ c → is_alphanumeric c ≡ false

@@ -5,12 +5,14 @@ use native.Mathlib.Nat.{le_refl}
 use native.Mathlib.Omega.{arith}
 use native.Mathlib.Numerals.{add-one, sub-one}
 use mathlib.Core.Path.{◌≡◌, refl, sym, ap, ap₂, ◌∙◌}
-use mathlib.Core.Bool.{Bool, true, false, and-true as and_true_right}
+use mathlib.Core.Bool.{Bool, true, false, ◌&&◌, and-true as and_true_right}
 use mathlib.Core.Logic.{inl, ⊎_elim}
 use mathlib.Core.List.{List, [], ◌∷◌, ◌++◌, reverse, reverse_aux, reverse-append, reverse-cons, reverse-reverse, append-nil, append_assoc}
 use lib.Dec.{ltb, eqb}
-use lib.ListN.{length, get_or, set, take, drop, replicate, length-append, drop_of_length-le}
-use lib.Seq.{sets, length-sets, get_or-set_same, get_or-set_other, take-suc, take_at, drop-cons, length-take-le}
+use lib.ListN.{length, get_or, set, take, drop, length-append}
+use lib.Seq.{sets, length-sets, get_or-set_same, get_or-set_other, take-suc, take_at, take_all, take-take, length-take-le}
+use borrow.Rule.Slice.PartMut.{put_mid, post_of}
+use Rattle.std.proofs.lemmas.Slice.{take-put_mid}
 use borrow.Author.Tests.{ltb-true, ltb-false, eq-eqb, ne_eqb, eqb-true, eqb-false}
 use Rattle.text.specs.Words.{drop_while, is, starts}
 use Rattle.text.specs.Chars.{is_digit, Ascii}
@@ -22,7 +24,7 @@ use Rattle.text.proofs.AsciiLaws.{digit_high}
 use Rattle.text.proofs.PutLaws.{put_parts}
 use Rattle.text.proofs.Lists.{same_last}
 use Rattle.html.specs.State.{line_start, ends_with_digit}
-use Rattle.html.specs.Struct.{written, out_of}
+use Rattle.html.specs.Struct.{written, last_first, out_of}
 
 -- ---- the written bytes
 written_set : (n : ℕ) (w : List ℕ) (i b : ℕ) → n ≤ i → written n (set w i b) ≡ written n w
@@ -44,6 +46,13 @@ written_take (suc n) w h = ap (λ (l : List ℕ). l ++ (get_or w n 0 ∷ [])) (w
 written_last : (n : ℕ) (w : List ℕ) → 0 < n → written n w ≡ written (n - 1) w ++ (get_or w (n - 1) 0 ∷ [])
 written_last zero w h = absurd (omega arith)
 written_last (suc n) w h = rw sub-one refl
+
+pub front_is : (n : ℕ) (w : List ℕ) → n ≤ length w → last_first (take n w) ≡ out_of n w
+unfolding last_first out_of
+front_is n w h = ap (λ (x : List ℕ). reverse (chars x)) (sym (written_take n w h))
+
+pub whole_is : (w : List ℕ) → out_of (length w) w ≡ last_first w
+whole_is w = sym (front_is (length w) w (le_refl (length w))) ∙ ap last_first (take_all (length w) w (le_refl (length w)))
 
 -- ---- a character more
 snoc_char : (xs : List ℕ) (c : ℕ) → IsScalar c → reverse (chars (xs ++ utf8 c)) ≡ c ∷ reverse (chars xs)
@@ -116,7 +125,7 @@ out_high n w h l =
     (ap encode (reverse-reverse (chars (written n w))) ∙ encode_chars (written n w) ∙ written_last n w h)
 
 -- a test that only ASCII passes says of the last byte what it says of the last character
-pub last_test : (Q : List ℕ → Bool) (q : ℕ → Bool) → ((d : ℕ) (o : List ℕ) → Q (d ∷ o) ≡ q d) → ((d : ℕ) → 0x80 ≤ d → q d ≡ false)
+last_test : (Q : List ℕ → Bool) (q : ℕ → Bool) → ((d : ℕ) (o : List ℕ) → Q (d ∷ o) ≡ q d) → ((d : ℕ) → 0x80 ≤ d → q d ≡ false)
     → (n : ℕ) (w : List ℕ) → 0 < n → q (get_or w (n - 1) 0) ≡ Q (out_of n w)
 last_test Q q f g n w h =
     ⊎_elim
@@ -147,44 +156,52 @@ spaces_stop w n h e =
     (decide (ltb (get_or w (n - 1) 0) 0x80))
 
 -- ---- bytes more
-ascii_at : (bs : List ℕ) (i : ℕ) → Ascii bs → i < length bs → get_or bs i 0 < 0x80
-ascii_at [] i h l = absurd (omega arith)
-ascii_at (b ∷ bs) zero h l = h.0
-ascii_at (b ∷ bs) (suc i) h l = ascii_at bs i h.1 (omega arith)
+snoc_all : (xs bs : List ℕ) → Ascii bs → reverse (chars (xs ++ bs)) ≡ reverse_aux bs (reverse (chars xs))
+snoc_all xs [] h = ap (λ (l : List ℕ). reverse (chars l)) (append-nil xs)
+snoc_all xs (b ∷ bs) h =
+    ap (λ (l : List ℕ). reverse (chars l)) (sym (append_assoc xs (b ∷ []) bs))
+    ∙ snoc_all (xs ++ (b ∷ [])) bs h.1
+    ∙ ap (reverse_aux bs) (snoc_ascii xs b h.0)
 
-pub all_more : (bs w : List ℕ) (n i : ℕ) {o : List ℕ} → Ascii bs → i < length bs → n < length w → reverse_aux (drop i bs) (out_of n w) ≡ o
-    → reverse_aux (drop (i + 1) bs) (out_of (n + 1) (set w n (get_or bs i 0))) ≡ o
-all_more bs w n i a hi hn e = rw (out_push n w (get_or bs i 0) hn (ascii_at bs i a hi), add-one i) (rw (drop-cons bs i 0 hi) at e)
-
-pub all_done : (bs w : List ℕ) (n i : ℕ) {o : List ℕ} → length bs ≤ i → reverse_aux (drop i bs) (out_of n w) ≡ o → out_of n w ≡ o
-all_done bs w n i h e = rw (drop_of_length-le bs h) at e
-
-pub times_more : (w : List ℕ) (n b k : ℕ) {o : List ℕ} → b < 0x80 → n < length w → 0 < k → reverse_aux (replicate k b) (out_of n w) ≡ o
-    → reverse_aux (replicate (k - 1) b) (out_of (n + 1) (set w n b)) ≡ o
-times_more w n b zero l h p e = absurd (omega arith)
-times_more w n b (suc k) l h p e = rw (out_push n w b h l, sub-one) e
+pub out_all : (n k : ℕ) (bs w : List ℕ) → Ascii bs → n + length bs ≤ length w → k ≡ length bs → out_of (n + k) (put_mid n (n + k - n) w bs) ≡ reverse_aux bs (out_of n w)
+unfolding out_of
+out_all n k bs w a h e =
+    let after = post_of n (n + k - n) w in
+    let more : n + k ≤ length (put_mid n (n + k - n) w bs) =
+    omega (arith, length-append (take n w) (bs ++ after), length-append bs after, length-take-le n w (omega (arith, h)), e)
+    in
+    ap (λ (x : List ℕ). reverse (chars x)) (written_take (n + k) _ more ∙ take-put_mid n (n + k - n) w bs (n + k) (omega (arith, e)) (omega (arith, h)))
+    ∙ snoc_all (take n w) bs a
+    ∙ ap (λ (x : List ℕ). reverse_aux bs (reverse (chars x))) (sym (written_take n w (omega (arith, h))))
 
 -- ---- what the output ends with
 feed_high : (d : ℕ) → 0x80 ≤ d → eqb d 10 ≡ false
 feed_high d h = ne_eqb d 10 (omega arith)
 
-pub start_last : (n : ℕ) (w : List ℕ) → 0 < n → eqb (get_or w (n - 1) 0) 10 ≡ line_start (out_of n w)
+whole_test : (Q : List ℕ → Bool) (q : ℕ → Bool) → ((d : ℕ) (o : List ℕ) → Q (d ∷ o) ≡ q d) → ((d : ℕ) → 0x80 ≤ d → q d ≡ false)
+    → (w : List ℕ) → 1 ≤ length w → q (get_or w (length w - 1) 0) ≡ Q (last_first w)
+whole_test Q q f g w h = last_test Q q f g (length w) w h ∙ ap Q (whole_is w)
+
+pub start_last : (w : List ℕ) → 1 ≤ length w → eqb (get_or w (length w - 1) 0) 10 ≡ line_start (last_first w)
 unfolding line_start
-start_last n w h = last_test line_start (λ d. eqb d 10) (λ d o. and_true_right (eqb d 10)) feed_high n w h
+start_last w h = whole_test line_start (λ d. eqb d 10) (λ d o. and_true_right (eqb d 10)) feed_high w h
 
-pub start_none : (n : ℕ) (w : List ℕ) → n ≡ 0 → true ≡ line_start (out_of n w)
+none_is : (w : List ℕ) → length w < 1 → last_first w ≡ []
+none_is w h = sym (whole_is w) ∙ out_none (length w) w (omega arith)
+
+pub start_none : (w : List ℕ) → length w < 1 → true ≡ line_start (last_first w)
 unfolding line_start
-start_none n w h = rw (out_none n w h)
+start_none w h = rw (none_is w h)
 
-pub digit_last : (n : ℕ) (w : List ℕ) → 0 < n → is_digit (get_or w (n - 1) 0) ≡ ends_with_digit (out_of n w)
+pub digit_last : (w : List ℕ) → 1 ≤ length w → is_digit (get_or w (length w - 1) 0) ≡ ends_with_digit (last_first w)
 unfolding ends_with_digit
-digit_last n w h = last_test ends_with_digit is_digit (λ d o. refl) digit_high n w h
+digit_last w h = whole_test ends_with_digit is_digit (λ d o. refl) digit_high w h
 
-pub digit_none : (n : ℕ) (w : List ℕ) → n ≡ 0 → false ≡ ends_with_digit (out_of n w)
+pub digit_none : (w : List ℕ) → length w < 1 → false ≡ ends_with_digit (last_first w)
 unfolding ends_with_digit
-digit_none n w h = rw (out_none n w h)
+digit_none w h = rw (none_is w h)
 
-pub blank_other : (n : ℕ) (w : List ℕ) → 0 < n → (get_or w (n - 1) 0 ≡ 10 → ⊥) → starts "\n\n" (out_of n w) ≡ false
+blank_other : (n : ℕ) (w : List ℕ) → 0 < n → (get_or w (n - 1) 0 ≡ 10 → ⊥) → starts "\n\n" (out_of n w) ≡ false
 blank_other n w h e =
     ⊎_elim
     (λ l. rw (out_ascii n w h (ltb-true (get_or w (n - 1) 0) 0x80 l), ne_eqb (get_or w (n - 1) 0) 10 e))
@@ -194,13 +211,13 @@ blank_other n w h e =
     rw (k.is, feed_high k.last m))
     (decide (ltb (get_or w (n - 1) 0) 0x80))
 
-pub blank_two : (n : ℕ) (w : List ℕ) → 2 ≤ n → get_or w (n - 1) 0 ≡ 10 → eqb (get_or w (n - 2) 0) 10 ≡ starts "\n\n" (out_of n w)
+blank_two : (n : ℕ) (w : List ℕ) → 2 ≤ n → get_or w (n - 1) 0 ≡ 10 → eqb (get_or w (n - 2) 0) 10 ≡ starts "\n\n" (out_of n w)
 blank_two n w h e =
     let i : n - 1 - 1 ≡ n - 2 = omega arith in
     let t = last_test (starts "\n") (λ d. eqb d 10) (λ d o. and_true_right (eqb d 10)) feed_high (n - 1) w (omega arith) in
     rw (out_ascii n w (omega arith) (omega arith), e) (rw i at t)
 
-pub blank_few : (n : ℕ) (w : List ℕ) → n < 2 → starts "\n\n" (out_of n w) ≡ false
+blank_few : (n : ℕ) (w : List ℕ) → n < 2 → starts "\n\n" (out_of n w) ≡ false
 blank_few zero w h = rw (out_none 0 w refl)
 blank_few (suc zero) w h =
     ⊎_elim
@@ -208,3 +225,43 @@ blank_few (suc zero) w h =
     (λ e. blank_other 1 w (omega arith) (eqb-false (get_or w 0 0) 10 e))
     (decide (eqb (get_or w 0 0) 10))
 blank_few (suc (suc n)) w h = absurd (omega arith)
+
+pub blank_last : (w : List ℕ) → 2 ≤ length w → eqb (get_or w (length w - 2) 0) 10 && eqb (get_or w (length w - 1) 0) 10 ≡ starts "\n\n" (last_first w)
+blank_last w h =
+    ⊎_elim
+    (λ e. rw e (and_true_right _ ∙ blank_two (length w) w h (eqb-true (get_or w (length w - 1) 0) 10 e)))
+    (λ e. rw e (and_false (eqb (get_or w (length w - 2) 0) 10) false refl ∙ sym (blank_other (length w) w (omega arith) (eqb-false (get_or w (length w - 1) 0) 10 e))))
+    (decide (eqb (get_or w (length w - 1) 0) 10))
+    ∙ ap (starts "\n\n") (whole_is w)
+
+pub blank_none : (w : List ℕ) → length w < 2 → false ≡ starts "\n\n" (last_first w)
+blank_none w h = sym (blank_few (length w) w h) ∙ ap (starts "\n\n") (whole_is w)
+
+-- ---- the spaces at the end of some bytes
+pub shorter : (w r : List ℕ) → r ≡ take (length r) w → take (length r - 1) r ≡ take (length (take (length r - 1) r)) w
+shorter w r e =
+    let n : length (take (length r - 1) r) ≡ length r - 1 = length-take-le (length r - 1) r (omega arith) in
+    rw n (ap (take (length r - 1)) e ∙ take-take (length r - 1) (length r) w (omega arith))
+
+pub spaces_on : (r o : List ℕ) → 1 ≤ length r → get_or r (length r - 1) 0 ≡ 32 → drop_while (is " ") (last_first r) ≡ o → drop_while (is " ") (last_first (take (length r - 1) r)) ≡ o
+spaces_on r o h e q =
+    ap (drop_while (is " ")) (front_is (length r - 1) r (omega arith))
+    ∙ sym (spaces_more r (length r) h e)
+    ∙ ap (drop_while (is " ")) (whole_is r)
+    ∙ q
+
+pub spaces_off : (r o : List ℕ) → 1 ≤ length r → (get_or r (length r - 1) 0 ≡ 32 → ⊥) → drop_while (is " ") (last_first r) ≡ o → last_first r ≡ o
+spaces_off r o h e q = sym (whole_is r) ∙ sym (spaces_stop r (length r) h e) ∙ ap (drop_while (is " ")) (whole_is r) ∙ q
+
+pub spaces_none : (r o : List ℕ) → length r < 1 → drop_while (is " ") (last_first r) ≡ o → last_first r ≡ o
+unfolding drop_while
+spaces_none r o h q = let z = none_is r h in z ∙ sym (ap (drop_while (is " ")) z) ∙ q
+
+-- the same of the written part of a buffer
+pub unspaced_out : (n k : ℕ) (w : List ℕ) → k ≤ length w → n ≤ k → last_first (take n (take k w)) ≡ drop_while (is " ") (last_first (take k w))
+    → out_of n w ≡ drop_while (is " ") (out_of k w)
+unspaced_out n k w h l e =
+    sym (front_is n w (omega (arith, h, l)))
+    ∙ ap last_first (sym (take-take n k w l))
+    ∙ e
+    ∙ ap (drop_while (is " ")) (front_is k w h)

@@ -11,17 +11,19 @@ use mathlib.Core.List.{List, [], ◌∷◌, ◌++◌, map, reverse_aux, reverse_
 use lib.ListN.{length, get_or, set, replicate}
 use lib.Seq.{get_or-set_same, get_or-set_other}
 use borrow.Author.Tests.{le-leb, lt-leb}
-use mir.Val.{bool_byte}
 use Rattle.std.specs.Prelude.{if◌then◌else◌}
 use Rattle.text.specs.Words.{drop_while, is, is_empty, starts, repeat, str}
 use Rattle.text.specs.Utf8.{utf8, size}
 use Rattle.text.proofs.Utf8.{utf8_1}
 use Rattle.text.specs.Decimal.{decimal}
 use Rattle.text.proofs.Tests.{on}
-use Rattle.html.specs.State.{State, with_out, with_lists, push_str, line_start, block, newline, spaced, marks, list_changed, item, tag, ul, ol, other, code, Tag}
+use Rattle.html.specs.State.{State, with_out, with_lists, push_str, line_start, block, newline, spaced, marks, list_changed, item, tag, other, code, Tag}
 use Rattle.html.specs.Page.{listed, is_list}
-use Rattle.html.specs.Struct.{state_of, out_of, upto, lists_of, number, with_space, unspaced, list_tag, step_means, pending}
-use Rattle.html.specs.declared.Converter.{Converter}
+use Rattle.html.specs.Struct.{state_of, out_of, upto, lists_of, number, with_space, unspaced, list_tag, first_number, step_means, tag_means, pending}
+use Rattle.html.specs.declared.converter.Converter.{Converter}
+use Rattle.html.specs.declared.ListKind.{ListKind}
+use Rattle.html.specs.declared.ListKind.TheVariants.{Unordered, Ordered}
+use Rattle.html.specs.declared.Tag.TheVariants.{List as Lists}
 use Rattle.html.specs.declared.Step.{Step}
 use Rattle.html.specs.declared.Step.TheVariants.{Heading, Block, Pre, Break, Item, Row, Cell, Strong, Emphasis, Code, Other}
 use Rattle.html.proofs.OutLaws.{out_none, size_out}
@@ -37,6 +39,10 @@ upto_push n w b h = rw add-one (ap₂ ◌∷◌ (get_or-set_same w n b 0 h) (upt
 pub length_upto : (n : ℕ) (w : List ℕ) → length (upto n w) ≡ n
 length_upto zero w = refl
 length_upto (suc n) w = ap suc (length_upto n w)
+
+pub upto_tail : (n : ℕ) (w : List ℕ) → upto (n - 1) w ≡ tail (upto n w)
+upto_tail zero w = refl
+upto_tail (suc n) w = rw sub-one refl
 
 pub upto_last : (n : ℕ) (w : List ℕ) → 0 < n → upto n w ≡ get_or w (n - 1) 0 ∷ upto (n - 1) w
 upto_last zero w h = absurd (omega arith)
@@ -190,12 +196,12 @@ unfolding list_tag
 list_opened first c h = rw (lt-leb _ _ h)
 
 -- ---- a tag's step
-pub listed_list : (ordered closing : Bool) (c : State) → list_tag (bool_byte ordered) closing c ≡ listed (if ordered then ol else ul) closing c
+pub listed_list : (kind : ListKind) (closing : Bool) (c : State) → list_tag (first_number kind) closing c ≡ listed (tag_means (Lists kind)) closing c
 unfolding list_tag listed tag
-listed_list true true c = refl
-listed_list true false c = refl
-listed_list false true c = refl
-listed_list false false c = refl
+listed_list Ordered true c = refl
+listed_list Ordered false c = refl
+listed_list Unordered true c = refl
+listed_list Unordered false c = refl
 
 no_list : (t : Tag) (closing : Bool) (c : State) → is_list t ≡ false → some (tag t closing c) ≡ listed t closing c
 unfolding listed

@@ -12,7 +12,7 @@ use lib.Dec.{eqb, ltb}
 use lib.ListN.{length, get_or, take, drop, length-drop}
 use lib.Seq.{take-suc, take_all, drop-drop}
 use borrow.Author.Tests.{eq-eqb, ne_eqb, eqb-true, ltb-true, lt-ltb, eqb-false, not-true, not-false}
-use Rattle.std.specs.Prelude.{if◌then◌else◌}
+use Rattle.std.specs.Prelude.{Some, None, if◌then◌else◌}
 use Rattle.text.specs.Words.{str, drop_while}
 use Rattle.text.specs.Chars.{within, is_space}
 use Rattle.text.specs.Trim.{trim_start, start_of}
@@ -24,8 +24,7 @@ use Rattle.text.proofs.TrimLaws.{space_ascii, start_space, start_other, start_le
 use Rattle.text.proofs.Lists.{same_last}
 use Rattle.reference.specs.Unescape.{reference, unescape}
 use Rattle.reference.specs.Answers.{answer}
-use Rattle.reference.specs.declared.Ampersand.{Ampersand}
-use Rattle.reference.specs.declared.Ampersand.TheVariants.{Replaced, Left}
+use Rattle.reference.specs.declared.Replacement.{Replacement}
 use Rattle.reference.proofs.Laws.{left_at, replaced_at, read_is, unescape_nil, unescape_other, unescape_size, at_and}
 use Rattle.html.specs.State.{State, with_out, line_start, special, opens, ends_with_digit, escape, put, spaced, blank, paused, next, put_all, text}
 use Rattle.html.specs.Struct.{out_of, with_space, pending}
@@ -245,29 +244,27 @@ unfolding put_all
 ink_done raw s t most out p i k h = sym (rw (advance_end raw i h, unescape_nil)) ∙ k.same
 
 -- ---- the character at an offset
-is_left : (o : Option (ℕ × ℕ)) (r : Ampersand) → r ≡ answer o → r ≡ Left → o ≡ none
-is_left none r e h = refl
-is_left (some p) r e h = let y : ◌≡◌ {A = ℕ} 0 1 = cc in absurd (omega arith)
+is_left : (o : Option (ℕ × ℕ)) → answer o ≡ None → o ≡ none
+is_left none e = refl
+is_left (some p) e = cc
 
-is_replaced : (o : Option (ℕ × ℕ)) (r : Ampersand) (c n : ℕ) → r ≡ answer o → r ≡ Replaced c n → o ≡ some (c, n)
-is_replaced none r c n e h = let y : ◌≡◌ {A = ℕ} 0 1 = cc in absurd (omega arith)
-is_replaced (some p) r c n e h =
-    let f : Replaced p.0 p.1 ≡ Replaced c n = sym e ∙ h in
-    let a : p.0 ≡ c = cc in
-    let b : p.1 ≡ n = cc in
-    rw (a, b)
+is_replaced : (o : Option (ℕ × ℕ)) (r : Replacement) → answer o ≡ Some r → o ≡ some (r.code, r.len)
+is_replaced none r e = cc
+is_replaced (some p) r e =
+    let f : record { code = p.0; len = p.1 } ≡ r = cc in
+    rw (← f)
 
 abbrev pub piece : ℕ → ℕ → Piece
 piece c n = record { code = c; next = n }
 
 module _ (s : List ℕ) (i : ℕ) (l : i < length s) (h : Scalars (chars (drop i s))) where
-  module _ (a : get_or s i 0 ≡ 38) (r : Ampersand) (e : r ≡ answer (reference (chars (drop (i + 1) s)))) where
+  module _ (a : get_or s i 0 ≡ 38) where
     and_tail : Scalars (chars (drop (i + 1) s))
     and_tail = (subst Scalars (at_and s i l a) h).1
 
-    pub piece_left : r ≡ Left → Unescaped s i (piece 38 (i + 1))
+    pub piece_left : answer (reference (chars (drop (i + 1) s))) ≡ None → Unescaped s i (piece 38 (i + 1))
     piece_left q =
-        let o = is_left (reference (chars (drop (i + 1) s))) r e q in
+        let o = is_left (reference (chars (drop (i + 1) s))) q in
         record {
           is = left_at s i l a o;
           scalar = inl (omega arith);
@@ -276,20 +273,23 @@ module _ (s : List ℕ) (i : ℕ) (l : i < length s) (h : Scalars (chars (drop i
           valid = and_tail;
         }
 
-    pub piece_replaced : (c n : ℕ) → r ≡ Replaced c n → Unescaped s i (piece c (i + 1 + n))
-    piece_replaced c n q =
-        let o = is_replaced (reference (chars (drop (i + 1) s))) r c n e q in
-        let d = read_is s (i + 1) c n o in
-        record {
-          is = replaced_at s i l a c n o;
-          scalar = d.scalar;
-          size = omega (arith, (utf8_size c).1, d.low);
-          bound = d.bound;
-          valid = subst Scalars d.rest (scalars_drop n (chars (drop (i + 1) s)) and_tail);
-        }
+    module _ (r : Replacement) (q : answer (reference (chars (drop (i + 1) s))) ≡ Some r) where
+      o : reference (chars (drop (i + 1) s)) ≡ some (r.code, r.len)
+      o = is_replaced (reference (chars (drop (i + 1) s))) r q
 
-    pub replaced_bound : (c n : ℕ) → r ≡ Replaced c n → i + 1 + n ≤ length s
-    replaced_bound c n q = (read_is s (i + 1) c n (is_replaced (reference (chars (drop (i + 1) s))) r c n e q)).bound
+      pub piece_replaced : Unescaped s i (piece r.code (i + 1 + r.len))
+      piece_replaced =
+          let d = read_is s (i + 1) r.code r.len o in
+          record {
+            is = replaced_at s i l a r.code r.len o;
+            scalar = d.scalar;
+            size = omega (arith, (utf8_size r.code).1, d.low);
+            bound = d.bound;
+            valid = subst Scalars d.rest (scalars_drop r.len (chars (drop (i + 1) s)) and_tail);
+          }
+
+      pub replaced_bound : i + 1 + r.len ≤ length s
+      replaced_bound = (read_is s (i + 1) r.code r.len o).bound
 
   -- another character
   not_and : (get_or s i 0 ≡ 38 → ⊥) → (code_at s i ≡ 38 → ⊥)

@@ -9,26 +9,25 @@ use mathlib.Core.Bool.{Bool, true, false, cond}
 use mathlib.Core.Option.{Option, some, none, some-injective}
 use mathlib.Core.List.{List, [], ◌∷◌}
 use lib.Dec.{ltb}
-use lib.ListN.{length, get_or, take, drop, length-take, length-drop, length-append, drop_of_length-le}
+use lib.ListN.{length, get_or, take, drop, length-drop, length-append}
 use lib.Seq.{drop-cons, drop-drop, drop-append_seam, drop-length, take_all, length-take-le}
 use borrow.Author.Tests.{lt-ltb, le-ltb, ltb-true, ltb-false}
 use Rattle.text.specs.Chars.{Ascii}
-use Rattle.std.specs.Prelude.{if◌then◌else◌}
+use Rattle.std.specs.Prelude.{Some, None, unwrap_or}
+use Rattle.std.specs.Prelude as code
 use Rattle.text.specs.Words.{◌>>=◌, case, starts, index, find}
 use Rattle.text.specs.Utf8.{Scalars, encode, size, chars}
 use Rattle.text.specs.Trim.{trim}
 use Rattle.text.specs.Find.{found, until, since, closed, comment_end}
-use Rattle.text.specs.declared.Found.TheVariants.{Nowhere}
 use Rattle.text.proofs.Tests.{on, starts_room}
 use Rattle.text.proofs.Laws.{size_chars, chars_nil, advance_end, scalars_split}
 use Rattle.text.proofs.AsciiLaws.{chars_ascii, starts_chars, drop_chars}
-use Rattle.text.proofs.FindLaws.{until_since, chars_until, chars_since, since_drop, IsHere, found_nowhere, index_none, index_some, take_until, drop_until, since_head}
+use Rattle.text.proofs.FindLaws.{until_since, chars_until, chars_since, IsHere, found_here, found_nowhere, index_none, index_some, take_until, drop_until, since_head}
 use Rattle.text.proofs.TrimLaws.{chars_trim}
 use Rattle.html.specs.State.{State}
 use Rattle.html.specs.Page.{inside, words, Turn, read, refused, tag_read, comment, a_tag, markup, turn, on_turn, loop}
-use Rattle.html.specs.Struct.{state_of, lists_of, tagged, left}
-use Rattle.html.specs.declared.Tagged.{Tagged}
-use Rattle.html.specs.declared.Converter.{Converter}
+use Rattle.html.specs.Struct.{state_of, lists_of, left}
+use Rattle.html.specs.declared.converter.Converter.{Converter}
 use Rattle.html.proofs.GrowLaws.{len_of}
 use Rattle.html.proofs.StepLaws.{lists_is, like}
 use Rattle.html.proofs.FitLaws.{words_size, words_lists}
@@ -112,7 +111,7 @@ module _ (s : List ℕ) (c : State) where
       rw (index_some 60 s h, take_until 60 s) (markup_at s u (words (until 60 s) c) ∙ ap (λ (l : List ℕ). left l (markup 0 l (words (until 60 s) c))) z)
 
 -- ---- the same in bytes
-chars_past : (h : List ℕ) → [] ≡ chars (drop (length h) h)
+pub chars_past : (h : List ℕ) → [] ≡ chars (drop (length h) h)
 chars_past h = sym (advance_end h (length h) (omega arith))
 
 -- a mark that was found, as the first of what is left
@@ -124,58 +123,64 @@ mark_is h at b j f =
 ascii_next : (h : List ℕ) (j b : ℕ) → j < length h → get_or h j 0 ≡ b → b < 0x80 → chars (drop j h) ≡ b ∷ chars (drop (j + 1) h)
 ascii_next h j b l e m = ap chars (drop-cons h j 0 l) ∙ chars_ascii (get_or h j 0) (drop (suc j) h) (omega arith) ∙ rw (e, add-one j)
 
--- ---- where the text before a mark ends: at the first b, or at the end of all
-pub end_here : (s : List ℕ) (i b j : ℕ) → IsHere s i b j → j ≡ i + length (until b (drop i s))
-end_here s i b j f = omega (arith, ap length f.until_is, length-take-le (j - i) (drop i s) (omega (arith, f.low, f.bound, length-drop i s)), f.low)
+-- ---- how long the text before a mark is: up to the first b, or all
+end_here : (s : List ℕ) (b j : ℕ) → IsHere s 0 b j → j ≡ length (until b s)
+end_here s b j f = omega (arith, ap length f.until_is, length-take-le (j - 0) s (omega (arith, f.bound)))
 
-pub end_all : (s : List ℕ) (i b : ℕ) → i ≤ length s → since b (drop i s) ≡ [] → length s ≡ i + length (until b (drop i s))
-end_all s i b l e = omega (arith, ap length (until_since b (drop i s)), length-append (until b (drop i s)) (since b (drop i s)), ap length e, length-drop i s)
+end_all : (s : List ℕ) (b : ℕ) → since b s ≡ [] → length s ≡ length (until b s)
+end_all s b e = omega (arith, ap length (until_since b s), length-append (until b s) (since b s), ap length e)
 
-module _ (s : List ℕ) (i b j : ℕ) (l : i ≤ length s) (e : j ≡ i + length (until b (drop i s))) where
-  pub end_reach : (i ≤ j) × (j ≤ length s)
-  end_reach = (omega arith, omega (arith, ap length (until_since b (drop i s)), length-append (until b (drop i s)) (since b (drop i s)), length-drop i s))
-
-  part_is : take (j - i) (drop i s) ≡ until b (drop i s)
-  part_is = let q : j - i ≡ length (until b (drop i s)) = omega arith in rw q (take_until b (drop i s))
-
-  left_is : drop j s ≡ since b (drop i s)
-  left_is = ap (λ (k : ℕ). drop k s) e ∙ since_drop b s i
-
-  pub end_marked : j < length s → IsHere s i b j
-  end_marked h = record { low = omega arith; bound = h; until_is = part_is; since_is = left_is }
-
-  none_left : j ≡ length s → since b (drop i s) ≡ []
-  none_left q = sym left_is ∙ drop_of_length-le s {i = j} (omega arith)
+pub end_of : (s : List ℕ) (b : ℕ) → (o : code.Option ℕ) → o ≡ found 0 (index (b ∷ []) s) → unwrap_or o (length s) ≡ length (until b s)
+end_of s b None e = end_all s b (found_nowhere s 0 b (sym e))
+end_of s b (Some j) e = end_here s b j (found_here s 0 b j (sym e))
 
 scalars_until : (b : ℕ) (s : List ℕ) → Scalars s → Scalars (until b s)
 scalars_until b s h = (scalars_split (until b s) (since b s) (subst Scalars (sym (until_since b s)) h)).0
 
-module _ (h : List ℕ) (at j : ℕ) (l : at ≤ length h) (e : j ≡ at + length (until 60 (drop at h))) where
-  abbrev rest : List ℕ
-  rest = chars (drop at h)
+module _ (h : List ℕ) (j : ℕ) (e : j ≡ length (until 60 h)) where
+  pub text_most : j ≤ length h
+  text_most = omega (arith, ap length (until_since 60 h), length-append (until 60 h) (since 60 h))
 
-  piece_is : chars (take (j - at) (drop at h)) ≡ until 60 rest
-  piece_is = ap chars (part_is h at 60 j l e) ∙ chars_until 60 (omega arith) (drop at h)
+  part_is : take j h ≡ until 60 h
+  part_is = ap (λ (k : ℕ). take k h) e ∙ take_until 60 h
 
-  pub piece_scalars : Scalars rest → Scalars (chars (take (j - at) (drop at h)))
-  piece_scalars s = rw piece_is (scalars_until 60 rest s)
+  piece_is : chars (take j h) ≡ until 60 (chars h)
+  piece_is = ap chars part_is ∙ chars_until 60 (omega arith) h
 
-  module _ (c d : State) (q : d ≡ words (chars (take (j - at) (drop at h))) c) where
-    pub bytes_text : j ≡ length h → some (chars (drop j h), d) ≡ left rest (turn rest c)
+  left_is : drop j h ≡ since 60 h
+  left_is = ap (λ (k : ℕ). drop k h) e ∙ ap (drop (length (until 60 h))) (sym (until_since 60 h)) ∙ drop-append_seam (until 60 h) (since 60 h)
+
+  pub piece_scalars : Scalars (chars h) → Scalars (chars (take j h))
+  piece_scalars s = rw piece_is (scalars_until 60 (chars h) s)
+
+  pub mark_first : 0 < length (drop j h) → get_or (drop j h) 0 0 ≡ 60
+  mark_first l = ap (λ (r : List ℕ). get_or r 0 0) left_is ∙ since_head 60 h (omega (arith, ap length left_is))
+
+  module _ (c d : State) (q : d ≡ words (chars (take j h)) c) where
+    pub bytes_text : length (drop j h) ≡ 0 → some (chars (drop j h), d) ≡ left (chars h) (turn (chars h) c)
     bytes_text f =
-        let n = none_left h at 60 j l e f in
-        let z : since 60 rest ≡ [] = sym (chars_since 60 (omega arith) (drop at h)) ∙ ap chars n ∙ chars_nil in
-        let w : take (j - at) (drop at h) ≡ drop at h = take_all (j - at) (drop at h) (omega (arith, length-drop at h)) in
-        rw (q, w, f, ← chars_past h) (sym (turn_text rest c z))
+        let n : drop j h ≡ [] = nil (drop j h) f in
+        let z : since 60 (chars h) ≡ [] = sym (chars_since 60 (omega arith) h) ∙ ap chars (sym left_is ∙ n) ∙ chars_nil in
+        let w : take j h ≡ h = take_all j h (omega (arith, f, length-drop j h)) in
+        ap (λ (l : List ℕ). some (l, d)) (ap chars n ∙ chars_nil)
+        ∙ ap (λ (x : State). some ([], x)) (q ∙ ap (λ (l : List ℕ). words (chars l) c) w)
+        ∙ sym (turn_text (chars h) c z)
+      where
+        nil : (l : List ℕ) → length l ≡ 0 → l ≡ []
+        nil [] e = refl
+        nil (x ∷ l) e = absurd (omega arith)
 
-    pub bytes_open : j < length h → left (chars (drop j h)) (markup 0 (chars (drop j h)) d) ≡ left rest (turn rest c)
+    pub bytes_open : 0 < length (drop j h) → left (chars (drop j h)) (markup 0 (chars (drop j h)) d) ≡ left (chars h) (turn (chars h) c)
     bytes_open f =
-        let g = end_marked h at 60 j l e f in
-        let z : chars (drop j h) ≡ since 60 rest = ap chars g.since_is ∙ chars_since 60 (omega arith) (drop at h) in
-        let m : 0 < length (since 60 rest) = omega (arith, ap length (sym z ∙ ascii_next h j 60 f (mark_is h at 60 j g) (omega arith))) in
+        let z : chars (drop j h) ≡ since 60 (chars h) = ap chars left_is ∙ chars_since 60 (omega arith) h in
+        let m : 0 < length (since 60 (chars h)) = omega (arith, ap length (sym z ∙ ascii_next (drop j h) 0 60 f (mark_first f) (omega arith))) in
         ap (λ (l : List ℕ). left l (markup 0 l d)) z
-        ∙ ap (λ (x : State). left (since 60 rest) (markup 0 (since 60 rest) x)) (q ∙ ap (λ (l : List ℕ). words l c) piece_is)
-        ∙ sym (turn_open rest c m)
+        ∙ ap (λ (x : State). left (since 60 (chars h)) (markup 0 (since 60 (chars h)) x)) (q ∙ ap (λ (l : List ℕ). words l c) piece_is)
+        ∙ sym (turn_open (chars h) c m)
+
+-- the rest of some bytes, as a part of them
+pub rest_is : (h : List ℕ) (r : ℕ) → take (length h - r) (drop r h) ≡ drop r h
+rest_is h r = take_all (length h - r) (drop r h) (omega (arith, length-drop r h))
 
 module _ (h : List ℕ) (j : ℕ) (d : State) (t : Bool) (e : t ≡ starts "<!--" (drop j h)) where
   abbrev mark : List ℕ
@@ -197,7 +202,7 @@ module _ (h : List ℕ) (j : ℕ) (d : State) (t : Bool) (e : t ≡ starts "<!--
       let rest : chars (drop r h) ≡ closed (drop 4 mark) = ap chars end ∙ closed_chars (drop (j + 4) h) ∙ ap closed p in
       sym (markup_comment mark d (starts_is ∙ y) ∙ ap (λ (l : List ℕ). some (l, d)) (sym rest))
 
-  pub bytes_unclosed : t ≡ false → found j (index (62 ∷ []) (drop j h)) ≡ Nowhere → some (chars (drop (length h) h), d) ≡ left mark (markup 0 mark d)
+  pub bytes_unclosed : t ≡ false → found j (index (62 ∷ []) (drop j h)) ≡ None → some (chars (drop (length h) h), d) ≡ left mark (markup 0 mark d)
   bytes_unclosed n g =
       let z : since 62 mark ≡ [] = sym (chars_since 62 (omega arith) (drop j h)) ∙ ap chars (found_nowhere h j 62 g) ∙ chars_nil in
       sym (markup_unclosed mark d (starts_is ∙ n) z ∙ ap (λ (l : List ℕ). some (l, d)) (chars_past h))
@@ -228,14 +233,6 @@ module _ (h : List ℕ) (j : ℕ) (d : State) (t : Bool) (e : t ≡ starts "<!--
         let p : chars bs ≡ trim (drop 1 (until 62 mark)) = ap chars b ∙ chars_trim (take (end - (j + 1)) (drop (j + 1) h)) ∙ ap trim (sym inner_is) in
         sym (markup_tag mark d (starts_is ∙ n) (omega (arith, ap length since_end)) ∙ ap (λ (x : List ℕ). tag_left x (inside (trim (drop 1 (until 62 mark))) d)) (ap (drop 1) since_end)
         ∙ ap (tag_left (chars (drop (end + 1) h))) (sym (i ∙ ap (λ (x : List ℕ). inside x d) p)))
-
-pub turned_tag : (t : Tagged) (w l : List ℕ) → (if t.ok then some (l, state_of t.state w) else none) ≡ tag_left l (tagged t w)
-unfolding tagged
-turned_tag t w l = go t.ok
-  where
-    go : (b : Bool) → (if b then some (l, state_of t.state w) else none) ≡ tag_left l (if b then some (state_of t.state w) else none)
-    go true = refl
-    go false = refl
 
 -- ---- the loop
 loop_drop : (n : ℕ) (s : List ℕ) (c : State) → loop n s c ≡ loop 0 (drop n s) c
@@ -291,9 +288,10 @@ unfolding loop
 loop_full [] c l = refl
 loop_full (x ∷ s) c l = rw (le-ltb (size c.out) 16000 l)
 
-pub loop_end : (h : List ℕ) (at : ℕ) (c : State) → length h ≤ at → loop 0 (chars (drop at h)) c ≡ some c
+pub loop_end : (s : List ℕ) (c : State) → length s ≡ 0 → loop 0 (chars s) c ≡ some c
 unfolding loop
-loop_end h at c l = rw (advance_end h at l)
+loop_end [] c l = rw chars_nil
+loop_end (x ∷ s) c l = absurd (omega arith)
 
 -- what a turn that was not refused left
 pub record Kept (s l : List ℕ) (c d : State) : Type 0 where
@@ -311,9 +309,6 @@ kept s l c d e = go (turn s c) refl e
         record { count = n; is = q ∙ ap (read n) (sym (ap (λ (p : List ℕ × State). p.1) f)); rest = sym (ap (λ (p : List ℕ × State). p.0) f) }
 
 -- ---- what a call has to know of the parts of a page
-pub part_most : (k i : ℕ) (h : List ℕ) → length (take k (drop i h)) ≤ length h
-part_most k i h = omega (arith, length-take k (drop i h), length-drop i h)
-
 pub mark_room : (s : List ℕ) (j : ℕ) (t : Bool) → t ≡ starts "<!--" (drop j s) → t ≡ true → j + 4 ≤ length s
 mark_room s j t e y = starts_room (60 ∷ 33 ∷ 45 ∷ 45 ∷ []) s j (omega arith) (sym e ∙ y)
 

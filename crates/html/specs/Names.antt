@@ -1,28 +1,28 @@
 -- A tag's name, and what it says to the code: `tag_means` gives the tag of notes.rs, and `script` and `style` are skipped.
 -- Assumes nothing.
-use Rattle.std.specs.Prelude.{ℕ, ◌+◌, ◌-◌, ◌*◌, true, false, List, [], ◌∷◌, map, leb, length, if◌then◌else◌}
+use Rattle.std.specs.Prelude.{ℕ, ◌+◌, ◌-◌, ◌*◌, List, [], ◌∷◌, map, leb, length, Option, Some, None, if◌then◌else◌}
 use Prim.Native.String.{String}
 use Rattle.text.specs.Words.{case, str, same, lookup}
 use Rattle.text.specs.Chars.{is_alphanumeric, to_lower}
 use Rattle.html.specs.State.{tags, heading, marked, para, pre, br, ul, ol, li, tr, cell, code, other}
 use Rattle.html.specs.State as state
-use Rattle.html.specs.declared.Skip.{Skip}
-use Rattle.html.specs.declared.Skip.TheVariants.{Nothing, Script, Style}
+use Rattle.html.specs.declared.ListKind.TheVariants.{Unordered, Ordered}
+use Rattle.html.specs.declared.Skipped.TheVariants.{Script, Style}
 use Rattle.html.specs.declared.Tag.{Tag}
-use Rattle.html.specs.declared.Tag.TheVariants.{Listing, Skipped, Writes}
+use Rattle.html.specs.declared.Tag.TheVariants.{List as Lists, Skipped, Writes}
 use Rattle.html.specs.declared.Step.TheVariants.{Heading, Block, Pre, Break, Item, Row, Cell, Strong, Emphasis, Code, Other}
 
--- one byte of a name, and 0 for a byte that ends it
-unfoldable pub folded : ℕ → ℕ
-folded b = if is_alphanumeric b then to_lower b else 0
+-- one byte of a name, and none for a byte that ends it
+unfoldable pub folded : ℕ → Option ℕ
+folded b = if is_alphanumeric b then Some (to_lower b) else None
 
--- a name as one number: its bytes less 47 are digits in base 76, here after those of k. Ten digits stay below 2 ^ 64; a longer name has 0
+-- a name as one number: its bytes less 47 are digits in base 76, here after those of k. Ten digits stay below 2 ^ 64; a longer name has none
 abbrev pub digits : ℕ → List ℕ → ℕ
 digits k [] = k
 digits k (b ∷ n) = digits (k * 76 + (b - 47)) n
 
-unfoldable pub key : List ℕ → ℕ
-key n = if leb (length n) 10 then digits 0 n else 0
+unfoldable pub key : List ℕ → Option ℕ
+key n = if leb (length n) 10 then Some (digits 0 n) else None
 
 abbrev pub Rows : Type 0
 Rows = List (String × Tag)
@@ -38,8 +38,8 @@ code_of (marked m) = Writes (if same (str "**") (str m) then Strong else Emphasi
 code_of para = Writes Block
 code_of pre = Writes Pre
 code_of br = Writes Break
-code_of ul = Listing false
-code_of ol = Listing true
+code_of ul = Lists Unordered
+code_of ol = Lists Ordered
 code_of li = Writes Item
 code_of tr = Writes Row
 code_of cell = Writes Cell
@@ -54,14 +54,3 @@ table = ("script", Skipped Script) ∷ ("style", Skipped Style) ∷ writing
 
 unfoldable pub says : List ℕ → Tag
 says n = find table n
-
--- a number for each skipped tag, 0 for none, by which two are compared; and the skipped tag that a tag is
-abbrev pub skip_no : Skip → ℕ
-skip_no Nothing = 0
-skip_no Script = 1
-skip_no Style = 2
-
-abbrev pub tag_skip : Tag → Skip
-tag_skip (Listing ordered) = Nothing
-tag_skip (Skipped k) = k
-tag_skip (Writes t) = Nothing

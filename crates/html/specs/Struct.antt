@@ -1,7 +1,8 @@
--- What the code's values stand for: the struct `Converter` and the lent output for a state, the enums `Skip`, `Step` and `Tag` for the names of
--- notes.rs, the structs `Tagged` and `Turned` for what a tag and a turn leave.
+-- What the code's values stand for: the struct `Converter` and the lent output for a state, the enums `Skipped`, `ListKind`, `Step` and `Tag` for
+-- the names of notes.rs, and what a tag and a turn answer.
 -- Assumes nothing.
-use Rattle.std.specs.Prelude.{ℕ, zero, suc, Bool, false, leb, length, get_or, drop, if◌then◌else◌}
+use Rattle.std.specs.Prelude.{ℕ, zero, suc, ◌+◌, ◌^◌, ◌≤◌, ◌<◌, leb, Bool, false, length, get_or, drop, Result, Ok, Err, if◌then◌else◌}
+use Rattle.std.specs.Prelude as code
 use mathlib.Core.List.{List, [], ◌∷◌, ◌++◌, reverse, reverse_aux, tail}
 use Rattle.std.proofs.Math.Option.{Option, none, some}
 use Rattle.text.specs.Words.{str, is, drop_while}
@@ -9,13 +10,15 @@ use Rattle.text.specs.Utf8.{chars}
 use Rattle.html.specs.State.{State, with_out, list_changed, heading, marked, para, pre, br, ul, ol, li, tr, cell, code, other}
 use Rattle.html.specs.State as state
 use Rattle.html.specs.Page.{Turn, read, refused}
-use Rattle.html.specs.declared.Skip.{Skip}
-use Rattle.html.specs.declared.Skip.TheVariants.{Nothing, Script, Style}
-use Rattle.html.specs.declared.Converter.{Converter}
-use Rattle.html.specs.declared.Tagged.{Tagged}
+use Rattle.html.specs.declared.Skipped.{Skipped as SkippedTag}
+use Rattle.html.specs.declared.Skipped.TheVariants.{Script, Style}
+use Rattle.html.specs.declared.converter.Converter.{Converter}
+use Rattle.html.specs.declared.ListKind.{ListKind}
+use Rattle.html.specs.declared.ListKind.TheVariants.{Unordered, Ordered}
+use Rattle.html.specs.declared.TooManyLists.{TooManyLists}
 use Rattle.html.specs.declared.Turned.{Turned}
 use Rattle.html.specs.declared.Tag.{Tag}
-use Rattle.html.specs.declared.Tag.TheVariants.{Listing, Skipped, Writes}
+use Rattle.html.specs.declared.Tag.TheVariants.{List as Lists, Skipped, Writes}
 use Rattle.html.specs.declared.Step.{Step}
 use Rattle.html.specs.declared.Step.TheVariants.{Heading, Block, Pre, Break, Item, Row, Cell, Strong, Emphasis, Code, Other}
 
@@ -24,7 +27,11 @@ abbrev pub written : ℕ → List ℕ → List ℕ
 written zero w = []
 written (suc n) w = written n w ++ (get_or w n 0 ∷ [])
 
--- their characters, last first
+-- the characters of bytes, last first
+unfoldable pub last_first : List ℕ → List ℕ
+last_first s = reverse (chars s)
+
+-- those of the written bytes
 unfoldable pub out_of : ℕ → List ℕ → List ℕ
 out_of n w = reverse (chars (written n w))
 
@@ -41,10 +48,13 @@ unfoldable pub number : List ℕ → ℕ
 number [] = 0
 number (n ∷ l) = n
 
-abbrev pub skip_name : Skip → Option (List ℕ)
-skip_name Nothing = none
-skip_name Script = some (str "script")
-skip_name Style = some (str "style")
+abbrev pub skipped_name : SkippedTag → List ℕ
+skipped_name Script = str "script"
+skipped_name Style = str "style"
+
+abbrev pub skip_name : code.Option SkippedTag → Option (List ℕ)
+skip_name code.None = none
+skip_name (code.Some k) = some (skipped_name k)
 
 -- the state that a struct and the lent output hold
 unfoldable pub state_of : Converter → List ℕ → State
@@ -66,7 +76,12 @@ pending space = if space then 1 else 0
 unfoldable pub ended : List ℕ → State → State
 ended s c = with_out (reverse_aux s c.out) false c
 
--- `ul` and `ol`, by the number that the list starts with
+-- the number that a list starts with
+abbrev pub first_number : ListKind → ℕ
+first_number Unordered = 0
+first_number Ordered = 1
+
+-- `ul` and `ol`, by that number
 unfoldable pub list_tag : ℕ → Bool → State → Option State
 list_tag first closing c =
     if closing then some (list_changed (tail c.lists) c)
@@ -88,18 +103,26 @@ step_means Code = code
 step_means Other = other
 
 abbrev pub tag_means : Tag → state.Tag
-tag_means (Listing ordered) = if ordered then ol else ul
+tag_means (Lists Unordered) = ul
+tag_means (Lists Ordered) = ol
 tag_means (Skipped k) = other
 tag_means (Writes t) = step_means t
 
 -- what a tag step answers: none is the refusal
-unfoldable pub tagged : Tagged → List ℕ → Option State
-tagged r w = if r.ok then some (state_of r.state w) else none
+abbrev pub tagged : Result Converter TooManyLists → List ℕ → Option State
+tagged (Ok c) w = some (state_of c w)
+tagged (Err e) w = none
 
 -- what a turn leaves: the characters that are left, and the state; none is the refusal
 abbrev pub left : List ℕ → Turn → Option (List ℕ × State)
 left s refused = none
 left s (read n d) = some (drop n s, d)
 
-unfoldable pub turned : Turned → List ℕ → List ℕ → Option (List ℕ × State)
-turned r w html = if r.ok then some (chars (drop r.next html), state_of r.state w) else none
+abbrev pub turned : Result Turned TooManyLists → List ℕ → Option (List ℕ × State)
+turned (Ok t) w = some (chars t.rest.now, state_of t.state w)
+turned (Err e) w = none
+
+-- what each tag needs: 149 bytes of the output for what it writes, and a number for the item after the next
+pub record TagRoom (c : Converter) (w : List ℕ) : Type 0 where
+  pub len : c.len + 149 ≤ length w
+  pub number : number (lists_of c) + 1 < 2 ^ 16

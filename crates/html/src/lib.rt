@@ -1,13 +1,13 @@
 // The converter: a release page, HTML, as Markdown with only headings, emphasis, code and lists.
 #![tactic(auto)]
 
-ghost use Rattle.std.specs.Prelude.{◌≡◌, ℕ, List, length};
-ghost use Rattle.html.specs.State.{new};
+ghost use Rattle.std.specs.Prelude.{◌≡◌, length};
 ghost use Rattle.text.specs.Outcome.{number, returned, result_after, work_kept};
-ghost use Rattle.html.specs.Struct.{state_of};
 ghost use Rattle.html.specs.Calls.{html_to_markdown_call};
-ghost use Rattle.html.specs.Answers.{answer_number, answer_length};
+ghost use Rattle.html.specs.Answers.{error_number, answer_number, answer_length};
+ghost use Rattle.html.specs.declared.PageError.TheVariants.{TooManyLists as lists_refused};
 
+mod converter;
 mod finish;
 mod names;
 mod output;
@@ -15,42 +15,42 @@ mod page;
 mod tags;
 mod words;
 
+pub use converter::Converter;
 use finish::finish;
 use page::convert;
 pub use words::special;
 
-// What `html_to_markdown` answers: the Markdown's length, or why there is none.
-#[derive(Clone, Copy)]
-pub enum Answer {
-    Length(usize),
+// Why there is no Markdown for a page.
+// Stays beside markdown's error, by d: each call refuses for reasons of its own, and one type for both would have cases that a call never answers.
+#[derive(Clone, Copy, PartialEq, Eq, Debug)]
+pub enum PageError {
     NotUtf8,
     SmallWork,
     SmallResult,
     TooManyLists,
 }
 
-// The tag whose text is being skipped.
-#[derive(Clone, Copy)]
-pub enum Skip {
-    Nothing,
+// A list that would be the 65th open.
+#[derive(Clone, Copy, PartialEq, Eq, Debug)]
+pub struct TooManyLists;
+
+// A tag whose text is skipped.
+#[derive(Clone, Copy, PartialEq, Eq)]
+pub enum Skipped {
     Script,
     Style,
 }
 
-// The state: how many bytes of the lent output are written, how many lists are open, their numbers (0 for `ul`, for `ol` one more than the
-// items begun; the output is full before one of them has 2 ^ 16), and three flags.
-#[derive(Clone, Copy)]
-pub struct Converter {
-    pub len: usize,
-    pub depth: usize,
-    pub lists: [u16; Converter::MAX_LISTS],
-    pub pre: bool,
-    pub skip: Skip,
-    pub space: bool,
+// A list with bullets, or one with numbers.
+#[derive(Clone, Copy, PartialEq, Eq)]
+pub enum ListKind {
+    Unordered,
+    Ordered,
 }
 
 // The tags that only write.
-#[derive(Clone, Copy)]
+// Stays an enum of mixed cases, by d: a heading alone has something to say beside its name, and none of the cases is a failure.
+#[derive(Clone, Copy, PartialEq, Eq)]
 pub enum Step {
     Heading(usize),
     Block,
@@ -65,80 +65,63 @@ pub enum Step {
     Other,
 }
 
-// What a tag's name says: a list (ordered or not), a tag whose text is skipped, or one that only writes.
-#[derive(Clone, Copy)]
+// What a tag's name says: a list, a tag whose text is skipped, or one that only writes.
+#[derive(Clone, Copy, PartialEq, Eq)]
 pub enum Tag {
-    Listing(bool),
-    Skipped(Skip),
+    List(ListKind),
+    Skipped(Skipped),
     Writes(Step),
 }
 
-// A tag step's answer: the state, or a refusal where 64 lists are open already.
+// What a turn over a page leaves: the rest of the page, and the state.
 #[derive(Clone, Copy)]
-pub struct Tagged {
-    pub ok: bool,
+pub struct Turned<'a> {
+    pub rest: &'a [u8],
     pub state: Converter,
 }
 
-// What a turn over a page leaves: whether it was accepted, where the next turn starts, and the state.
-#[derive(Clone, Copy)]
-pub struct Turned {
-    pub ok: bool,
-    pub next: usize,
-    pub state: Converter,
-}
+// The number of a refusal, for C and for the program that writes it.
+// Stays a `match`, by d: it says each number beside its name; a cast would take them from the order of the cases.
+impl From<PageError> for u32 {
+    ghost from_gives = { λ e n. n ≡ error_number e };
 
-impl Converter {
-    // The longest notes text kept, in characters.
-    pub const MAX_NOTES: usize = 8_000;
-
-    // The output, in bytes, from which on no turn is taken.
-    pub const MAX_OUT: usize = 16_000;
-
-    // The most lists that are open together.
-    pub const MAX_LISTS: usize = 64;
-
-    // The longest HTML read, in bytes.
-    pub const MAX_HTML: usize = 1_048_576;
-
-    pub fn new() -> Self
-        ensures { (w : List ℕ) → state_of result w ≡ new }
-    {
-        Converter {
-            len: 0,
-            depth: 0,
-            lists: [0; Converter::MAX_LISTS],
-            pre: false,
-            skip: Skip::Nothing,
-            space: false,
+    fn from(error: PageError) -> u32 {
+        match error {
+            PageError::NotUtf8 => 1,
+            PageError::SmallWork => 2,
+            PageError::SmallResult => 3,
+            PageError::TooManyLists => 4,
         }
     }
 }
 
+impl From<TooManyLists> for PageError {
+    ghost from_gives = { λ _ e. e ≡ lists_refused };
+
+    fn from(_refused: TooManyLists) -> PageError {
+        Self::TooManyLists
+    }
+}
+
 // GitHub's release HTML as Markdown with only headings, emphasis, code and lists, in the front of `result`. The output is built in `work`.
-pub fn html_to_markdown(page: &[u8], work: &mut [u8], res: &mut [u8]) -> Answer
+pub fn html_to_markdown(page: &[u8], work: &mut [u8], res: &mut [u8]) -> Result<usize, PageError>
     ensures result_value { (answer_number result ≡ number (html_to_markdown_call page.now (length work.old) (length res.old))) × (answer_length result ≡ returned (html_to_markdown_call page.now (length work.old) (length res.old))) }
     ensures res_after { res.new ≡ result_after (html_to_markdown_call page.now (length work.old) (length res.old)) res.old }
     ensures work_unchanged { work_kept (html_to_markdown_call page.now (length work.old) (length res.old)) work.new ≡ work_kept (html_to_markdown_call page.now (length work.old) (length res.old)) work.old }
 {
     if !text::is_utf8(page) {
-        return Answer::NotUtf8;
+        return Err(PageError::NotUtf8);
     }
     let n = text::cut_len(page, Converter::MAX_HTML);
     if work.len() < 2 * n + 16_384 {
-        return Answer::SmallWork;
+        return Err(PageError::SmallWork);
     }
     if res.len() < 4 * Converter::MAX_NOTES {
-        return Answer::SmallResult;
+        return Err(PageError::SmallResult);
     }
     if n == 0 {
-        return Answer::Length(0);
+        return Ok(0);
     }
-    let t = convert(work, &page[..n]);
-    if !t.ok {
-        return Answer::TooManyLists;
-    }
-    let c = t.state;
-    let k = finish(work, c.len, res);
-    Answer::Length(k)
+    let c = convert(work, &page[..n])?;
+    Ok(finish(&work[..c.len], res))
 }

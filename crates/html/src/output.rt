@@ -1,5 +1,7 @@
 // The written part of the lent output: bytes more and spaces fewer at its end, and what it ends with.
-ghost use Rattle.std.specs.Prelude.{◌≡◌, ◌+◌, ◌≤◌, ◌<◌, length, replicate, false};
+// Stay a buffer and how much of it is written, by b and d: with both in a struct that is lent, text took 1.04 to 1.09 times the instructions,
+// and each function owes a second clause, that the struct still holds the same buffer.
+ghost use Rattle.std.specs.Prelude.{◌≡◌, ◌+◌, ◌≤◌, ◌<◌, length, take, replicate, false};
 ghost use mathlib.Core.List.{◌∷◌, reverse_aux};
 ghost use Rattle.text.specs.Words.{is, starts, drop_while};
 ghost use Rattle.text.specs.Utf8.{IsScalar, utf8, code_at};
@@ -7,58 +9,48 @@ ghost use Rattle.text.specs.Decimal.{decimal};
 ghost use Rattle.text.specs.Chars.{Ascii};
 ghost use Rattle.html.specs.State.{State, with_out, line_start, block, newline, ends_with_digit};
 ghost use Rattle.html.specs.Pen.{AboveAscii};
-ghost use Rattle.html.specs.Struct.{out_of, with_space};
+ghost use Rattle.html.specs.Struct.{last_first, out_of, with_space};
 
-// The written bytes, without the spaces at their end.
-pub(crate) fn unspaced(out: &[u8], len: usize) -> usize
-    requires { len ≤ length out.now }
-    ensures { out_of result out.now ≡ drop_while (is " ") (out_of len out.now) }
+// How many of the written bytes are left without the spaces at their end.
+pub(crate) fn unspaced(written: &[u8]) -> usize
+    ensures bytes { last_first (take result written.now) ≡ drop_while (is " ") (last_first written.now) }
+    ensures bound { result ≤ length written.now }
 {
-    let mut n = len;
-    while 0 < n {
-        if out[n - 1] != b' ' {
-            break;
-        }
-        n -= 1;
+    let mut rest = written;
+    while let [front @ .., b' '] = rest {
+        rest = front;
     }
-    n
+    rest.len()
 }
 
 // Whether nothing is on the line yet.
-pub(crate) fn line_start(out: &[u8], n: usize) -> bool
-    requires { n ≤ length out.now }
-    ensures { result ≡ line_start (out_of n out.now) }
+pub(crate) fn line_start(written: &[u8]) -> bool
+    ensures { result ≡ line_start (last_first written.now) }
 {
-    if n == 0 {
-        return true;
+    match written {
+        [] => true,
+        [.., last] => *last == b'\n',
     }
-    out[n - 1] == b'\n'
 }
 
 // Whether the written bytes end in two line feeds.
-pub(crate) fn ends_blank(out: &[u8], n: usize) -> bool
-    requires { n ≤ length out.now }
-    ensures { result ≡ starts "\n\n" (out_of n out.now) }
+pub(crate) fn ends_blank(written: &[u8]) -> bool
+    ensures { result ≡ starts "\n\n" (last_first written.now) }
 {
-    if n < 2 {
-        return false;
+    match written {
+        [.., before, last] => (*before == b'\n') & (*last == b'\n'),
+        _ => false,
     }
-    if out[n - 1] != b'\n' {
-        return false;
-    }
-    out[n - 2] == b'\n'
 }
 
 // Whether the written bytes end in a digit.
-pub(crate) fn ends_digit(out: &[u8], n: usize) -> bool
-    requires { n ≤ length out.now }
-    ensures { result ≡ ends_with_digit (out_of n out.now) }
+pub(crate) fn ends_digit(written: &[u8]) -> bool
+    ensures { result ≡ ends_with_digit (last_first written.now) }
 {
-    if n == 0 {
-        return false;
+    match written {
+        [] => false,
+        [.., last] => last.is_ascii_digit(),
     }
-    let b = out[n - 1];
-    (b'0' <= b) & (b <= b'9')
 }
 
 // A pending space, written.
@@ -119,14 +111,9 @@ pub(crate) fn push_all(out: &mut [u8], n: usize, bytes: &[u8]) -> usize
     requires { (n + length bytes.now ≤ length out.old) × Ascii bytes.now }
     ensures { out_of result out.new ≡ reverse_aux bytes.now (out_of n out.old) }
 {
-    let mut at = n;
-    let mut i = 0;
-    while i < bytes.len() {
-        out[at] = bytes[i];
-        at += 1;
-        i += 1;
-    }
-    at
+    let end = n + bytes.len();
+    out[n..end].copy_from_slice(bytes);
+    end
 }
 
 // One ASCII byte more, several times.
@@ -134,14 +121,9 @@ pub(crate) fn push_times(out: &mut [u8], n: usize, byte: u8, times: usize) -> us
     requires { (n + times ≤ length out.old) × (byte < 0x80) }
     ensures { out_of result out.new ≡ reverse_aux (replicate times byte) (out_of n out.old) }
 {
-    let mut at = n;
-    let mut left = times;
-    while 0 < left {
-        out[at] = byte;
-        at += 1;
-        left -= 1;
-    }
-    at
+    let end = n + times;
+    out[n..end].fill(byte);
+    end
 }
 
 // A number more, in decimal.
@@ -161,14 +143,14 @@ pub(crate) fn blocked(out: &mut [u8], len: usize) -> usize
     requires { len + 2 ≤ length out.old }
     ensures { (s : State) → with_out (out_of result out.new) false s ≡ block (with_out (out_of len out.old) false s) }
 {
-    let n = unspaced(out, len);
+    let n = unspaced(&out[..len]);
     if n == 0 {
         return n;
     }
-    if ends_blank(out, n) {
+    if ends_blank(&out[..n]) {
         return n;
     }
-    if line_start(out, n) {
+    if line_start(&out[..n]) {
         return push(out, n, b'\n');
     }
     push_all(out, n, b"\n\n")
@@ -179,8 +161,8 @@ pub(crate) fn line_ended(out: &mut [u8], len: usize) -> usize
     requires { len + 1 ≤ length out.old }
     ensures { (s : State) → with_out (out_of result out.new) false s ≡ newline (with_out (out_of len out.old) false s) }
 {
-    let n = unspaced(out, len);
-    if line_start(out, n) {
+    let n = unspaced(&out[..len]);
+    if line_start(&out[..n]) {
         return n;
     }
     push(out, n, b'\n')

@@ -4,16 +4,22 @@ ghost use mathlib.Core.List.{List, ◌∷◌, tail};
 ghost use Rattle.html.specs.State.{block, newline, marks, list_changed, item, tag, with_lists, heading, pre, br, li, tr, cell, code};
 ghost use Rattle.text.specs.Chars.{Ascii};
 ghost use Rattle.html.specs.Page.{listed};
-ghost use Rattle.html.specs.Struct.{state_of, lists_of, number, step_means, tag_means, tagged, ended, list_tag};
+ghost use Rattle.html.specs.Struct.{state_of, lists_of, number, first_number, step_means, tag_means, tagged, ended, list_tag, TagRoom};
 
 use crate::output::{blocked, line_ended, push, push_all, push_number, push_times, spaced};
-use crate::{Converter, Step, Tag, Tagged};
+use crate::{Converter, ListKind, Step, Tag, TooManyLists};
 
-// A heading's level, 3 at most.
-fn level_of(level: usize) -> usize
-    ensures { result ≡ min level 3 }
-{
-    if level < 3 { level } else { 3 }
+impl ListKind {
+    // The number that such a list starts with.
+    // Stays 0 for a list without numbers, by d: the state has the number of a list's next item so, for notes.rs too.
+    fn first(self) -> u16
+        ensures { result ≡ first_number self }
+    {
+        match self {
+            ListKind::Unordered => 0,
+            ListKind::Ordered => 1,
+        }
+    }
 }
 
 impl Converter {
@@ -22,18 +28,17 @@ impl Converter {
         requires { self.len + 2 ≤ length out.old }
         ensures { state_of result out.new ≡ block (state_of self out.old) }
     {
-        let n = blocked(out, self.len);
-        self.len = n;
+        self.len = blocked(out, self.len);
         self.space = false;
         self
     }
 
+    // Stays beside `block`, by d: the two call different functions, and a generic one would take the function and its definition as parameters.
     pub(crate) fn newline(mut self, out: &mut [u8]) -> Self
         requires { self.len + 1 ≤ length out.old }
         ensures { state_of result out.new ≡ newline (state_of self out.old) }
     {
-        let n = line_ended(out, self.len);
-        self.len = n;
+        self.len = line_ended(out, self.len);
         self.space = false;
         self
     }
@@ -43,14 +48,12 @@ impl Converter {
         ensures { state_of result out.new ≡ marks mark.now closing (state_of self out.old) }
     {
         if closing {
-            let m = push_all(out, self.len, mark);
-            self.len = m;
+            self.len = push_all(out, self.len, mark);
             return self;
         }
         let n = spaced(out, self.len, self.space);
         self.space = false;
-        let m = push_all(out, n, mark);
-        self.len = m;
+        self.len = push_all(out, n, mark);
         self
     }
 
@@ -58,46 +61,37 @@ impl Converter {
         requires { self.depth < 64 }
         ensures { (w : List ℕ) → state_of result w ≡ with_lists (first ∷ lists_of self) (state_of self w) }
     {
-        let d = self.depth;
-        self.lists[d] = first;
-        self.depth = d + 1;
+        self.lists[self.depth] = first;
+        self.depth += 1;
         self
     }
 
     fn closed(mut self) -> Self
         ensures { (w : List ℕ) → state_of result w ≡ with_lists (tail (lists_of self)) (state_of self w) }
     {
-        let d = self.depth;
-        if d == 0 {
-            return self;
-        }
-        self.depth = d - 1;
+        self.depth = self.depth.saturating_sub(1);
         self
     }
 
     // An item's marker, after two spaces for each list around the innermost.
     fn item(mut self, out: &mut [u8]) -> Self
-        requires depth_bound { self.depth ≤ 64 }
         requires len_in_bounds { self.len + 148 ≤ length out.old }
-        requires self_bound { number (lists_of self) + 1 < 2 ^ 16 }
+        requires number_bound { number (lists_of self) + 1 < 2 ^ 16 }
         ensures { state_of result out.new ≡ item (lists_of self) (state_of self out.old) }
     {
         let d = self.depth;
         if d == 0 {
-            let m = push_all(out, self.len, b"- ");
-            self.len = m;
+            self.len = push_all(out, self.len, b"- ");
             return self;
         }
         let n = self.lists[d - 1];
         let indented = push_times(out, self.len, b' ', 2 * (d - 1));
         if n == 0 {
-            let m = push_all(out, indented, b"- ");
-            self.len = m;
+            self.len = push_all(out, indented, b"- ");
             return self;
         }
         let numbered = push_number(out, indented, n as usize);
-        let m = push_all(out, numbered, b". ");
-        self.len = m;
+        self.len = push_all(out, numbered, b". ");
         self.lists[d - 1] = n + 1;
         self
     }
@@ -115,32 +109,20 @@ impl Converter {
         self
     }
 
-    // `ul` and `ol`: first is 0 or 1.
-    fn list(mut self, out: &mut [u8], first: u16, closing: bool) -> Tagged
-        requires depth_bound { self.depth ≤ 64 }
-        requires len_in_bounds { self.len + 3 ≤ length out.old }
-        ensures { tagged result out.new ≡ list_tag first closing (state_of self out.old) }
+    // `ul` and `ol`.
+    fn list(mut self, out: &mut [u8], kind: ListKind, closing: bool) -> Result<Self, TooManyLists>
+        requires { self.len + 3 ≤ length out.old }
+        ensures { tagged result out.new ≡ list_tag (first_number kind) closing (state_of self out.old) }
     {
         if closing {
             self = self.closed();
-            self = self.changed(out);
-            return Tagged {
-                ok: true,
-                state: self,
-            };
+            return Ok(self.changed(out));
         }
         if self.depth == Self::MAX_LISTS {
-            return Tagged {
-                ok: false,
-                state: self,
-            };
+            return Err(TooManyLists);
         }
-        self = self.opened(first);
-        self = self.changed(out);
-        Tagged {
-            ok: true,
-            state: self,
-        }
+        self = self.opened(kind.first());
+        Ok(self.changed(out))
     }
 
     fn heading(mut self, out: &mut [u8], level: usize, closing: bool) -> Self
@@ -151,9 +133,8 @@ impl Converter {
         if closing {
             return self;
         }
-        let n = push_times(out, self.len, b'#', level_of(level));
-        let m = push(out, n, b' ');
-        self.len = m;
+        let n = push_times(out, self.len, b'#', level.min(3));
+        self.len = push(out, n, b' ');
         self
     }
 
@@ -162,8 +143,7 @@ impl Converter {
         requires { (self.len + length bytes.now ≤ length out.old) × Ascii bytes.now }
         ensures { state_of result out.new ≡ ended bytes.now (state_of self out.old) }
     {
-        let m = push_all(out, self.len, bytes);
-        self.len = m;
+        self.len = push_all(out, self.len, bytes);
         self.space = false;
         self
     }
@@ -188,9 +168,7 @@ impl Converter {
     }
 
     fn list_item(mut self, out: &mut [u8], closing: bool) -> Self
-        requires depth_bound { self.depth ≤ 64 }
-        requires len_in_bounds { self.len + 149 ≤ length out.old }
-        requires self_bound { number (lists_of self) + 1 < 2 ^ 16 }
+        requires { TagRoom self out.old }
         ensures { state_of result out.new ≡ tag li closing (state_of self out.old) }
     {
         if closing {
@@ -231,10 +209,9 @@ impl Converter {
     }
 
     // A tag that only writes.
+    // Stays a `match`, by d: each arm is one step with arguments of its own, so a table of steps would need one more function for each.
     fn step(self, out: &mut [u8], step: Step, closing: bool) -> Self
-        requires depth_bound { self.depth ≤ 64 }
-        requires len_in_bounds { self.len + 149 ≤ length out.old }
-        requires self_bound { number (lists_of self) + 1 < 2 ^ 16 }
+        requires { TagRoom self out.old }
         ensures { state_of result out.new ≡ tag (step_means step) closing (state_of self out.old) }
     {
         match step {
@@ -253,22 +230,20 @@ impl Converter {
     }
 
     // A tag's step.
-    pub(crate) fn tag(mut self, out: &mut [u8], tag: Tag, closing: bool) -> Tagged
-        requires depth_bound { self.depth ≤ 64 }
-        requires len_in_bounds { self.len + 149 ≤ length out.old }
-        requires self_bound { number (lists_of self) + 1 < 2 ^ 16 }
+    // Stays a `match`, by d: the three kinds of tag take different arguments, and one of them alone can refuse.
+    pub(crate) fn tag(
+        mut self,
+        out: &mut [u8],
+        tag: Tag,
+        closing: bool,
+    ) -> Result<Self, TooManyLists>
+        requires { TagRoom self out.old }
         ensures { tagged result out.new ≡ listed (tag_means tag) closing (state_of self out.old) }
     {
         match tag {
-            Tag::Listing(ordered) => self.list(out, ordered as u16, closing),
-            Tag::Skipped(_) => Tagged {
-                ok: true,
-                state: self,
-            },
-            Tag::Writes(step) => Tagged {
-                ok: true,
-                state: self.step(out, step, closing),
-            },
+            Tag::List(kind) => self.list(out, kind, closing),
+            Tag::Skipped(_) => Ok(self),
+            Tag::Writes(step) => Ok(self.step(out, step, closing)),
         }
     }
 }

@@ -1,18 +1,19 @@
 // Text outside tags: `text` of notes.rs, with the references of `unescape` replaced as they are met.
-ghost use Rattle.std.specs.Prelude.{◌≡◌, ℕ, ◌+◌, ◌-◌, ◌*◌, ◌≤◌, ◌<◌, List, ◌∷◌, false, length, drop};
+ghost use Rattle.std.specs.Prelude.{◌≡◌, ◌==◌, ℕ, ◌+◌, ◌-◌, ◌*◌, ◌≤◌, ◌<◌, List, ◌∷◌, false, length, drop};
+ghost use Rattle.std.specs.List.{list_any};
 ghost use Rattle.text.specs.Trim.{trim_start};
 ghost use Rattle.text.specs.Utf8.{IsScalar, Scalars, utf8, chars, code_at};
 ghost use Rattle.html.specs.State.{State, with_out, special, opens, escape, blank, paused, put_all, text};
 ghost use Rattle.reference.specs.Unescape.{unescape};
 ghost use Rattle.html.specs.State as state;
-ghost use Rattle.html.specs.Struct.{state_of, out_of, with_space, pending};
+ghost use Rattle.html.specs.Struct.{state_of, last_first, out_of, with_space, pending};
 ghost use Rattle.html.specs.Pen.{pen_state, plain, AboveAscii, Unescaped, Behind, Inking};
 
 use crate::Converter;
 use crate::output::{copy_char, ends_digit, line_start, push, put_char, spaced};
-use reference::Ampersand;
 
 // Where text is written: the output's length, a pending space, and whether nothing of this text has been written yet.
+// Stay two flags, by d: each is a fact of its own, and no value stands beside it.
 #[derive(Clone, Copy)]
 pub struct Pen {
     pub len: usize,
@@ -21,6 +22,7 @@ pub struct Pen {
 }
 
 // A character of text, and where the next one starts.
+// Stays beside `Inked`, by d: both have an offset behind what was read, and a type for the other half would say no more than the two names.
 #[derive(Clone, Copy)]
 pub struct Piece {
     pub code: u32,
@@ -28,6 +30,8 @@ pub struct Piece {
 }
 
 // The character above ASCII at i. The text is UTF-8, so the first byte says how many there are.
+// The text and an offset stay apart here and below, by d: the loops count the offset in the text, and a slice for each character would have to be
+// tied to it again.
 fn above_ascii(raw: &[u8], i: usize) -> Piece
     requires { AboveAscii raw.now i }
     ensures { Unescaped raw.now i result × ((result.code ≡ code_at raw.now i) × (chars (drop i raw.now) ≡ result.code ∷ chars (drop result.next raw.now))) }
@@ -61,15 +65,15 @@ fn unescaped(raw: &[u8], i: usize) -> Piece
 {
     let b = raw[i];
     if b == b'&' {
-        let Ampersand::Replaced(c, n) = reference::reference(raw, i + 1) else {
+        let Some(found) = reference::reference(raw, i + 1) else {
             return Piece {
                 code: 38,
                 next: i + 1,
             };
         };
         return Piece {
-            code: c,
-            next: i + 1 + n,
+            code: found.code,
+            next: i + 1 + found.len,
         };
     }
     if b < 0x80 {
@@ -95,62 +99,69 @@ fn blank(c: u32, pre: bool) -> bool
     !pre & text::is_space(c)
 }
 
+// Whether c is one of the marks.
+fn among(c: u32, marks: &[u8]) -> bool
+    ensures { result ≡ list_any (λ mark. c == mark) marks.now }
+{
+    marks.iter().any(|mark| c == u32::from(*mark))
+}
+
 // Characters that the Markdown reader would take for emphasis or a link.
 pub fn special(c: u32) -> bool
     ensures { result ≡ special c }
 {
-    (c == 92) | (c == 42) | (c == 96) | (c == 91) | (c == 33)
+    among(c, b"\\*`[!")
 }
 
 // Characters that it would take for a heading, a list, a quotation or a table at the start of a line.
 fn opens(c: u32) -> bool
     ensures { result ≡ opens c }
 {
-    (c == 35) | (c == 45) | (c == 43) | (c == 62) | (c == 124)
+    among(c, b"#-+>|")
 }
 
-// Whether c gets a backslash.
-fn escapes(out: &[u8], n: usize, c: u32, first: bool) -> bool
-    requires { n ≤ length out.now }
-    ensures { result ≡ escape first c (out_of n out.now) }
+// Whether c gets a backslash behind the written bytes.
+fn escapes(written: &[u8], c: u32, first: bool) -> bool
+    ensures { result ≡ escape first c (last_first written.now) }
 {
     if special(c) {
         return true;
     }
     if opens(c) {
-        return line_start(out, n);
+        return line_start(written);
     }
     if c != 46 {
         return false;
     }
     if first {
-        return ends_digit(out, n);
+        return ends_digit(written);
     }
     false
 }
 
 impl Pen {
+    // Behind a character that was written.
+    fn behind(len: usize) -> Pen
+        ensures { result ≡ record { len = len; space = false; first = false } }
+    {
+        Pen {
+            len,
+            space: false,
+            first: false,
+        }
+    }
+
     // A character that is written.
     fn write(self, out: &mut [u8], c: u32, pre: bool) -> Pen
         requires { (self.len + 2 + length (utf8 c) ≤ length out.old) × IsScalar c }
         ensures { ((s : State) → s.pre ≡ pre → pen_state s result out.new ≡ state.put self.first c (state.spaced (pen_state s self out.old))) × (result.first ≡ false) }
     {
         let n = spaced(out, self.len, self.space);
-        if !pre & escapes(out, n, c, self.first) {
+        if !pre & escapes(&out[..n], c, self.first) {
             let k = push(out, n, b'\\');
-            let m = put_char(out, k, c);
-            return Pen {
-                len: m,
-                space: false,
-                first: false,
-            };
+            return Pen::behind(put_char(out, k, c));
         }
-        let m = put_char(out, n, c);
-        Pen {
-            len: m,
-            space: false,
-            first: false,
-        }
+        Pen::behind(put_char(out, n, c))
     }
 
     // An ASCII character that is written as it is.
@@ -159,12 +170,7 @@ impl Pen {
         ensures { ((s : State) → pen_state s result out.new ≡ with_out (b ∷ with_space self.space (out_of self.len out.old)) false s) × (result.first ≡ false) }
     {
         let n = spaced(out, self.len, self.space);
-        let m = push(out, n, b);
-        Pen {
-            len: m,
-            space: false,
-            first: false,
-        }
+        Pen::behind(push(out, n, b))
     }
 
     // The character above ASCII at i of raw, written: none of them is escaped.
@@ -173,12 +179,7 @@ impl Pen {
         ensures { ((s : State) → pen_state s result out.new ≡ state.put self.first (code_at raw.now i) (state.spaced (pen_state s self out.old))) × (result.first ≡ false) }
     {
         let n = spaced(out, self.len, self.space);
-        let m = copy_char(out, n, raw, i);
-        Pen {
-            len: m,
-            space: false,
-            first: false,
-        }
+        Pen::behind(copy_char(out, n, raw, i))
     }
 
     // A space: pending, unless nothing is on the line yet.
@@ -186,11 +187,9 @@ impl Pen {
         requires { self.len ≤ length out.now }
         ensures { ((s : State) → pen_state s result out.now ≡ paused (pen_state s self out.now)) × (result.first ≡ self.first) }
     {
-        let start = line_start(out, self.len);
         Pen {
-            len: self.len,
-            space: !start,
-            first: self.first,
+            space: !line_start(&out[..self.len]),
+            ..self
         }
     }
 }
@@ -212,6 +211,7 @@ pub struct Inked {
 
 // The characters from i on, behind one that is written, up to the next `&`. Nothing here is at the start of a line or of the text, so that few
 // tests are left for each.
+// Stays a `while`, by d: the next character starts one to four bytes on, so no `for` goes from byte to byte.
 fn run(pen: Pen, out: &mut [u8], raw: &[u8], from: usize, pre: bool) -> Inked
     requires from_in_bounds { (from ≤ length raw.now) × (Scalars (chars (drop from raw.now)) × (pen.len + pending pen.space + 2 * (length raw.now - from) < length out.old)) }
     requires behind { Behind pre pen out.old }
@@ -253,6 +253,7 @@ fn run(pen: Pen, out: &mut [u8], raw: &[u8], from: usize, pre: bool) -> Inked
 }
 
 // The characters of a text, one after the other.
+// Stays a `while`, by d: a turn goes on where `run` or the spaces end.
 fn ink(pen: Pen, out: &mut [u8], raw: &[u8], pre: bool) -> Pen
     requires { (pen.len + 2 + 2 * length raw.now ≤ length out.old) × Scalars (chars raw.now) }
     ensures { (s : State) → s.pre ≡ pre → pen_state s result out.new ≡ put_all pen.first (unescape 0 (chars raw.now)) (pen_state s pen out.old) }
@@ -267,10 +268,9 @@ fn ink(pen: Pen, out: &mut [u8], raw: &[u8], pre: bool) -> Pen
             continue;
         }
         let w = p.write(out, u.code, pre);
-        let r = run(w, out, raw, u.next, pre);
-        let q = r.pen;
-        p = q;
-        i = r.next;
+        let written = run(w, out, raw, u.next, pre);
+        p = written.pen;
+        i = written.next;
     }
     p
 }
@@ -280,14 +280,14 @@ impl Converter {
         requires { (self.len + 2 + 2 * length raw.now ≤ length out.old) × Scalars (chars raw.now) }
         ensures { state_of result out.new ≡ text (chars raw.now) (state_of self out.old) }
     {
-        let pen = Pen {
+        let begun = Pen {
             len: self.len,
             space: self.space,
             first: true,
         };
-        let p = ink(pen, out, raw, self.pre);
-        self.len = p.len;
-        self.space = p.space;
+        let pen = ink(begun, out, raw, self.pre);
+        self.len = pen.len;
+        self.space = pen.space;
         self
     }
 }

@@ -15,8 +15,12 @@ use Rattle.records.proofs.Stores.{sets_front}
 use Rattle.markdown.specs.Blocks.{blocks}
 use Rattle.markdown.specs.Calls.{recorded, with_buffers, blocks_call}
 use Rattle.markdown.specs.Answers.{answer_number, answer_length}
-use Rattle.markdown.specs.declared.Answer.{Answer}
-use Rattle.markdown.specs.declared.Answer.TheVariants.{Length, NotUtf8, SmallWork, TooLong, SmallResult}
+use Rattle.std.specs.Prelude.{Result, Ok, Err}
+use Rattle.markdown.specs.declared.BlocksError.{BlocksError}
+use Rattle.markdown.specs.declared.BlocksError.TheVariants.{NotUtf8, SmallWork, TooLong, SmallResult}
+
+abbrev Answer : Type 0
+Answer = Result ℕ BlocksError
 
 abbrev pub Answered : Outcome → List ℕ → List ℕ → List ℕ → List ℕ → Answer → Type 0
 Answered o work₀ work out₀ out a =
@@ -29,24 +33,24 @@ module _ (md work out : List ℕ) where
   said : (o : Outcome) (work₁ out₁ : List ℕ) (a : Answer) → call ≡ o → Answered o work work₁ out out₁ a → Answered call work work₁ out out₁ a
   said o work₁ out₁ a e v = subst (λ (p : Outcome). Answered p work work₁ out out₁ a) (sym e) v
 
-  pub too_long : 65536 < length md → Answered call work work out out TooLong
+  pub too_long : 65536 < length md → Answered call work work out out (Err TooLong)
   unfolding blocks_call
-  too_long h = said (refused 5) work out TooLong (rw (lt-ltb 65536 (length md) h)) (refl, (refl, (refl, refl)))
+  too_long h = said (refused 5) work out (Err TooLong) (rw (lt-ltb 65536 (length md) h)) (refl, (refl, (refl, refl)))
 
   module _ (s : length md ≤ 65536) where
-    pub not_utf8 : is_utf8 md ≡ false → Answered call work work out out NotUtf8
+    pub not_utf8 : is_utf8 md ≡ false → Answered call work work out out (Err NotUtf8)
     unfolding blocks_call
     not_utf8 e =
-        said (refused 1) work out NotUtf8 (rw (le-ltb 65536 (length md) s, decode_false md e)) (refl, (refl, (refl, refl)))
+        said (refused 1) work out (Err NotUtf8) (rw (le-ltb 65536 (length md) s, decode_false md e)) (refl, (refl, (refl, refl)))
 
     module _ (e : is_utf8 md ≡ true) where
       read_call : call ≡ with_buffers (chars md) (length md) (length work) (length out)
       unfolding blocks_call
       read_call = rw (le-ltb 65536 (length md) s, decode_true md e)
 
-      pub small_work : length work < 6 * length md → Answered call work work out out SmallWork
+      pub small_work : length work < 6 * length md → Answered call work work out out (Err SmallWork)
       unfolding with_buffers
-      small_work h = said (refused 2) work out SmallWork (read_call ∙ rw (lt-ltb (length work) (6 * length md) h)) (refl, (refl, (refl, refl)))
+      small_work h = said (refused 2) work out (Err SmallWork) (read_call ∙ rw (lt-ltb (length work) (6 * length md) h)) (refl, (refl, (refl, refl)))
 
       module _ (h : 6 * length md ≤ length work) where
         abbrev records : List ℕ
@@ -56,13 +60,13 @@ module _ (md work out : List ℕ) where
         unfolding with_buffers
         room_call = read_call ∙ rw (le-ltb (length work) (6 * length md) h)
 
-        pub small_result : (work₁ out₁ : List ℕ) → length out < length records → out₁ ≡ replicate (length out) 0 → Answered call work work₁ out out₁ SmallResult
+        pub small_result : (work₁ out₁ : List ℕ) → length out < length records → out₁ ≡ replicate (length out) 0 → Answered call work work₁ out out₁ (Err SmallResult)
         unfolding recorded
         small_result work₁ out₁ l f =
-            said (refused 6) work₁ out₁ SmallResult (room_call ∙ rw (lt-ltb (length out) (length records) l)) (refl, (refl, (f, refl)))
+            said (refused 6) work₁ out₁ (Err SmallResult) (room_call ∙ rw (lt-ltb (length out) (length records) l)) (refl, (refl, (f, refl)))
 
-        pub all_written : (work₁ out₁ : List ℕ) (n : ℕ) → n ≡ length records → n ≤ length out → out₁ ≡ sets out 0 records → Answered call work work₁ out out₁ (Length n)
+        pub all_written : (work₁ out₁ : List ℕ) (n : ℕ) → n ≡ length records → n ≤ length out → out₁ ≡ sets out 0 records → Answered call work work₁ out out₁ (Ok n)
         unfolding recorded
         all_written work₁ out₁ n q l f =
             let m : length records ≤ length out = subst (λ (k : ℕ). k ≤ length out) q l in
-            said (wrote records) work₁ out₁ (Length n) (room_call ∙ rw (le-ltb (length out) (length records) m)) (refl, (q, (f ∙ sets_front out records m, refl)))
+            said (wrote records) work₁ out₁ (Ok n) (room_call ∙ rw (le-ltb (length out) (length records) m)) (refl, (q, (f ∙ sets_front out records m, refl)))

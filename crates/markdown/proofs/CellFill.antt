@@ -17,6 +17,8 @@ use Rattle.text.proofs.Tests.{starts_room, decide}
 use Rattle.text.proofs.TrimLaws.{end_snoc}
 use Rattle.text.proofs.Lists.{drop_next}
 use Rattle.text.specs.Part.{between}
+use Rattle.std.specs.Prelude.{Some, None}
+use Rattle.std.specs.Prelude as code
 use Rattle.markdown.specs.Cells.{cells, dot_bytes, CellsIs, RowIs, bar_size}
 use Rattle.markdown.proofs.PartLaws.{drop_take, part_none, part_length}
 use Rattle.markdown.proofs.CellLaws.{cells_spaced, cells_bar, cells_kept, end_nil, bar, row_is}
@@ -141,39 +143,42 @@ module _ (work₀ : List ℕ) (a b at : ℕ) where
       starts_bar : starts "|" (between work i b) ≡ eqb (get_or work i 0) 124
       starts_bar = rw left_cons (and_true_right (eqb (get_or work i 0) 124))
 
-      module _ (n : ℕ) (e : n ≡ bar_size (between work i b)) where
-        is_three : starts " | " (between work i b) ≡ true → n ≡ 3
+      module _ (o : code.Option ℕ) (e : o ≡ bar_size (between work i b)) where
+        is_three : starts " | " (between work i b) ≡ true → o ≡ Some 3
         is_three h = e ∙ rw h
 
-        is_one : starts " | " (between work i b) ≡ false → eqb (get_or work i 0) 124 ≡ true → n ≡ 1
+        is_one : starts " | " (between work i b) ≡ false → eqb (get_or work i 0) 124 ≡ true → o ≡ Some 1
         is_one h g = e ∙ rw (h, starts_bar, g)
 
-        is_none : starts " | " (between work i b) ≡ false → eqb (get_or work i 0) 124 ≡ false → n ≡ 0
+        is_none : starts " | " (between work i b) ≡ false → eqb (get_or work i 0) 124 ≡ false → o ≡ None
         is_none h g = e ∙ rw (h, starts_bar, g)
 
-        pub bar_in : i + n ≤ b
-        bar_in =
+        size : (n m : ℕ) → o ≡ Some n → o ≡ Some m → m ≡ n
+        size n m f g = cc
+
+        pub bar_in : (n : ℕ) → o ≡ Some n → (0 < n) × (i + n ≤ b)
+        bar_in n f =
             ⊎_elim
-            (λ h. omega (arith, is_three h, spaced_in h))
-            (λ h. ⊎_elim (λ g. omega (arith, is_one h g)) (λ g. omega (arith, is_none h g)) (decide (eqb (get_or work i 0) 124)))
+            (λ h. omega (arith, size n 3 f (is_three h), spaced_in h))
+            (λ h. ⊎_elim (λ g. omega (arith, size n 1 f (is_one h g))) (λ g. let z = is_none h g in cc) (decide (eqb (get_or work i 0) 124)))
             (decide (starts " | " (between work i b)))
 
-        pub filling_dot : (work₁ : List ℕ) → (n ≡ 0 → ⊥) → work₁ ≡ sets work k dot_bytes → Filling work₀ work₁ a b at (i + n) (k + 4)
-        filling_dot work₁ z f =
+        pub filling_dot : (n : ℕ) (work₁ : List ℕ) → o ≡ Some n → work₁ ≡ sets work k dot_bytes → Filling work₀ work₁ a b at (i + n) (k + 4)
+        filling_dot n work₁ z f =
             ⊎_elim
-            (λ h. subst (λ (j : ℕ). Filling work₀ work₁ a b at (i + j) (k + 4)) (sym (is_three h)) (filling_spaced work₁ h f))
+            (λ h. subst (λ (j : ℕ). Filling work₀ work₁ a b at (i + j) (k + 4)) (size n 3 z (is_three h)) (filling_spaced work₁ h f))
             (λ h.
             ⊎_elim
-            (λ g. subst (λ (j : ℕ). Filling work₀ work₁ a b at (i + j) (k + 4)) (sym (is_one h g)) (filling_bar h work₁ (eqb-true (get_or work i 0) 124 g) f))
-            (λ g. absurd (z (is_none h g)))
+            (λ g. subst (λ (j : ℕ). Filling work₀ work₁ a b at (i + j) (k + 4)) (size n 1 z (is_one h g)) (filling_bar h work₁ (eqb-true (get_or work i 0) 124 g) f))
+            (λ g. let y = is_none h g in cc)
             (decide (eqb (get_or work i 0) 124)))
             (decide (starts " | " (between work i b)))
 
-        pub filling_other : n ≡ 0 → Filling work₀ (set work k (get_or work i 0)) a b at (i + 1) (k + 1)
+        pub filling_other : o ≡ None → Filling work₀ (set work k (get_or work i 0)) a b at (i + 1) (k + 1)
         filling_other z =
             ⊎_elim
-            (λ h. absurd (omega (arith, is_three h, z)))
-            (λ h. filling_kept h (λ g. omega (arith, z, is_one h (eq-eqb (get_or work i 0) 124 g))))
+            (λ h. let y = is_three h in cc)
+            (λ h. filling_kept h (λ g. let y = is_one h (eq-eqb (get_or work i 0) 124 g) in cc))
             (decide (starts " | " (between work i b)))
 
     pub filling_end : b ≤ i → CellsIs work₀ work a b at k

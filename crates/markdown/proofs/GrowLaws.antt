@@ -15,6 +15,7 @@ use Rattle.records.specs.Format.{le32, kind_bits, encode_kind, encode_span, enco
 use Rattle.records.proofs.Stores.{sets_append, gap}
 use Rattle.markdown.specs.Blocks.{plain_space}
 use Rattle.markdown.specs.State.{continued_after, continued_out, space_bytes}
+use Rattle.markdown.specs.declared.writer.OpenItem.{OpenItem}
 use Rattle.markdown.specs.declared.writer.State.{State}
 
 -- ---- records one after the other
@@ -63,8 +64,9 @@ module _
     (mk : List ℕ)
     (more : List Span)
     (s : State)
-    (map : s.map ≡ kind_bits (item depth mk))
-    (fields : s.fields ≡ s.head + 1 + length (encode_kind (item depth mk)))
+    (i : OpenItem)
+    (map : i.map ≡ kind_bits (item depth mk))
+    (fields : i.fields ≡ i.head + 1 + length (encode_kind (item depth mk)))
   where
     abbrev K : List ℕ
     K = encode_kind (item depth mk)
@@ -76,27 +78,27 @@ module _
     abbrev whole : ℕ → List ℕ → List ℕ
     whole n t = (kind_bits (item depth mk) + 8) ∷ (K ++ (le32 n ++ t))
 
-    pub grow : (ss : List Span) → s.count ≡ length ss → s.at ≡ s.head + length (encode_block (Item depth mk ss))
-        → (out : List ℕ) → out ≡ sets l s.head (encode_block (Item depth mk ss))
-        → (continued_out s more out ≡ sets l s.head (encode_block (Item depth mk (ss ++ (plain_space ∷ more)))))
-        × ((continued_after s more).at ≡ s.head + length (encode_block (Item depth mk (ss ++ (plain_space ∷ more)))))
+    pub grow : (ss : List Span) → i.count ≡ length ss → s.at ≡ i.head + length (encode_block (Item depth mk ss))
+        → (out : List ℕ) → out ≡ sets l i.head (encode_block (Item depth mk ss))
+        → (continued_out s i more out ≡ sets l i.head (encode_block (Item depth mk (ss ++ (plain_space ∷ more)))))
+        × ((continued_after s i more).at ≡ i.head + length (encode_block (Item depth mk (ss ++ (plain_space ∷ more)))))
     unfolding encode_block encode_spans
     grow [] c a out e =
         let n : 1 + length more ≡ suc (length more) = omega arith in
         let k : K ++ [] ++ [] ≡ K = append-nil (K ++ []) ∙ append-nil K in
-        let o : out ≡ sets l s.head ((kind_bits (item depth mk) + 0) ∷ K) = e ∙ ap (λ (x : List ℕ). sets l s.head ((kind_bits (item depth mk) + 0) ∷ x)) k in
-        let f : s.head + length ((kind_bits (item depth mk) + 0) ∷ K) ≡ s.fields = omega arith in
+        let o : out ≡ sets l i.head ((kind_bits (item depth mk) + 0) ∷ K) = e ∙ ap (λ (x : List ℕ). sets l i.head ((kind_bits (item depth mk) + 0) ∷ x)) k in
+        let f : i.head + length ((kind_bits (item depth mk) + 0) ∷ K) ≡ i.fields = omega arith in
         let b : encode_block (Item depth mk (plain_space ∷ more)) ≡ whole (suc (length more)) Z =
         rw (space_spans more) (ap (λ (x : List ℕ). (kind_bits (item depth mk) + 8) ∷ x) (append_assoc K (le32 (suc (length more))) Z))
         in (
           rw (c, n, map)
-              (ap (λ (x : List ℕ). sets x s.head ((kind_bits (item depth mk) + 8) ∷ []))
-              (gap out s.fields (s.fields + 4) (le32 (suc (length more))) Z refl
-              ∙ ap (λ (x : List ℕ). sets x s.fields (le32 (suc (length more)) ++ Z)) o
-              ∙ ap (λ (i : ℕ). sets (sets l s.head ((kind_bits (item depth mk) + 0) ∷ K)) i (le32 (suc (length more)) ++ Z)) (sym f)
-              ∙ sym (sets_append l s.head ((kind_bits (item depth mk) + 0) ∷ K) (le32 (suc (length more)) ++ Z)))
-              ∙ patch l s.head s.head [] ((kind_bits (item depth mk) + 0) ∷ []) (K ++ (le32 (suc (length more)) ++ Z)) ((kind_bits (item depth mk) + 8) ∷ []) refl (add-zero s.head)
-              ∙ ap (sets l s.head) (sym b)),
+              (ap (λ (x : List ℕ). sets x i.head ((kind_bits (item depth mk) + 8) ∷ []))
+              (gap out i.fields (i.fields + 4) (le32 (suc (length more))) Z refl
+              ∙ ap (λ (x : List ℕ). sets x i.fields (le32 (suc (length more)) ++ Z)) o
+              ∙ ap (λ (n : ℕ). sets (sets l i.head ((kind_bits (item depth mk) + 0) ∷ K)) n (le32 (suc (length more)) ++ Z)) (sym f)
+              ∙ sym (sets_append l i.head ((kind_bits (item depth mk) + 0) ∷ K) (le32 (suc (length more)) ++ Z)))
+              ∙ patch l i.head i.head [] ((kind_bits (item depth mk) + 0) ∷ []) (K ++ (le32 (suc (length more)) ++ Z)) ((kind_bits (item depth mk) + 8) ∷ []) refl (add-zero i.head)
+              ∙ ap (sets l i.head) (sym b)),
           rw c
               (omega (
                 arith,
@@ -109,10 +111,10 @@ module _
         )
     grow (x ∷ xs) c a out e =
         let N = length (xs ++ (plain_space ∷ more)) in
-        let n : s.count + 1 + length more ≡ suc N = omega (arith, length-append xs (plain_space ∷ more)) in
+        let n : i.count + 1 + length more ≡ suc N = omega (arith, length-append xs (plain_space ∷ more)) in
         let S = encode_spans (x ∷ xs) in
         let m = kind_bits (item depth mk) + 8 in
-        let o : out ≡ sets l s.head (whole (suc (length xs)) S) = e ∙ ap (λ (y : List ℕ). sets l s.head (m ∷ y)) (append_assoc K (le32 (suc (length xs))) S) in
+        let o : out ≡ sets l i.head (whole (suc (length xs)) S) = e ∙ ap (λ (y : List ℕ). sets l i.head (m ∷ y)) (append_assoc K (le32 (suc (length xs))) S) in
         let j : length (encode_block (Item depth mk (x ∷ xs))) ≡ length (whole (suc (length xs)) S) = ap (λ (y : List ℕ). length (m ∷ y)) (append_assoc K (le32 (suc (length xs))) S) in
         let b : encode_block (Item depth mk ((x ∷ xs) ++ (plain_space ∷ more))) ≡ whole (suc N) (S ++ Z) =
         rw (spans_append (x ∷ xs) (plain_space ∷ more), space_spans more) (ap (λ (y : List ℕ). m ∷ y) (append_assoc K (le32 (suc N)) (S ++ Z)))
@@ -121,19 +123,19 @@ module _
         ap (λ (y : List ℕ). m ∷ y)
         (append_assoc K (le32 (suc (length xs)) ++ S) Z ∙ ap (λ (y : List ℕ). K ++ y) (append_assoc (le32 (suc (length xs))) S Z))
         in
-        let g : s.head + length (whole (suc (length xs)) S) ≡ s.at = omega arith in
-        let f : s.head + length (m ∷ K) ≡ s.fields = omega arith in (
-          rw (ne_eqb s.count 0 (λ q. omega arith), n, map)
-              (ap (λ (y : List ℕ). sets y s.head (m ∷ []))
-              (ap (λ (y : List ℕ). sets y s.fields (le32 (suc N)))
+        let g : i.head + length (whole (suc (length xs)) S) ≡ s.at = omega arith in
+        let f : i.head + length (m ∷ K) ≡ i.fields = omega arith in (
+          rw (ne_eqb i.count 0 (λ q. omega arith), n, map)
+              (ap (λ (y : List ℕ). sets y i.head (m ∷ []))
+              (ap (λ (y : List ℕ). sets y i.fields (le32 (suc N)))
               (ap (λ (y : List ℕ). sets y s.at Z) o
-              ∙ ap (λ (i : ℕ). sets (sets l s.head (whole (suc (length xs)) S)) i Z) (sym g)
-              ∙ sym (sets_append l s.head (whole (suc (length xs)) S) Z)
-              ∙ ap (sets l s.head) w)
-              ∙ patch l s.head s.fields (m ∷ K) (le32 (suc (length xs))) (S ++ Z) (le32 (suc N)) refl f)
-              ∙ patch l s.head s.head [] (m ∷ []) (K ++ (le32 (suc N) ++ (S ++ Z))) (m ∷ []) refl (add-zero s.head)
-              ∙ ap (sets l s.head) (sym b)),
-          rw (ne_eqb s.count 0 (λ q. omega arith))
+              ∙ ap (λ (n : ℕ). sets (sets l i.head (whole (suc (length xs)) S)) n Z) (sym g)
+              ∙ sym (sets_append l i.head (whole (suc (length xs)) S) Z)
+              ∙ ap (sets l i.head) w)
+              ∙ patch l i.head i.fields (m ∷ K) (le32 (suc (length xs))) (S ++ Z) (le32 (suc N)) refl f)
+              ∙ patch l i.head i.head [] (m ∷ []) (K ++ (le32 (suc N) ++ (S ++ Z))) (m ∷ []) refl (add-zero i.head)
+              ∙ ap (sets l i.head) (sym b)),
+          rw (ne_eqb i.count 0 (λ q. omega arith))
               (omega (
                 arith,
                 ap length b,

@@ -6,7 +6,7 @@ use mathlib.Core.Option.{none, some}
 use mathlib.Core.List.{List, [], ◌∷◌, ◌++◌}
 use mathlib.Core.Logic.{⊎_elim}
 use mathlib.Core.Path.{◌≡◌, refl, sym, ap, ◌∙◌, subst}
-use borrow.Author.Tests.{eqb-true, eqb-false}
+use borrow.Author.Tests.{eq-eqb, eqb-true, eqb-false}
 use native.Mathlib.Omega.{arith}
 use lib.Dec.{eqb}
 use lib.ListN.{length, get_or}
@@ -17,16 +17,21 @@ use Rattle.text.specs.Utf8.{chars}
 use Rattle.text.proofs.Tests.{decide, on, and_true, and_false}
 use Rattle.text.proofs.Laws.{size_chars}
 use Rattle.records.specs.Blocks.{Span, heading as headed, Block, Heading, Paragraph, Item}
-use Rattle.records.specs.Format.{encode_block}
+use Rattle.records.specs.Format.{encode_block, encode_spans}
 use Rattle.spans.specs.Spans.{spans}
 use Rattle.spans.proofs.Bounds.{spans_small}
 use Rattle.markdown.specs.Blocks.{Reader, reader, flush, is_rule, heading, row, continued, continuation, paragraph, added, plain_space, read_text}
 use Rattle.text.specs.Part.{between}
 use Rattle.markdown.specs.Parts.{text_of}
 use Rattle.markdown.specs.Cells.{RowIs, RowMade}
-use Rattle.markdown.specs.Shape.{Trimmed, Titled, mark, MarkerAt}
-use Rattle.markdown.specs.State.{plain_after, item_after, span_start, continued_after, continued_out, ItemAt, LastIs, Holds, Safe, grown, Given, Steps, ends, starts_with_text}
-use Rattle.markdown.specs.declared.shape.Range.{Range}
+use Rattle.markdown.specs.Shape.{part_text, Trimmed, Titled, mark, MarkerAt}
+use Rattle.markdown.specs.State.{plain_after, item_after, span_start, continued_after, continued_out, ItemAt, LastIs, Holds, Safe, grown, Given, Steps, ends, starts_with_text, SafeItem, SafeLast, item_continued, continues}
+use Rattle.text.specs.declared.Part.{Part}
+use Rattle.markdown.specs.declared.shape.Title.{Title}
+use Rattle.markdown.specs.declared.shape.Marker.{Marker}
+use Rattle.std.specs.Prelude.{Some, None}
+use Rattle.std.specs.Prelude as code
+use Rattle.markdown.specs.declared.writer.OpenItem.{OpenItem}
 use Rattle.markdown.specs.declared.writer.State.{State}
 use Rattle.markdown.proofs.PartLaws.{part_length}
 use Rattle.markdown.proofs.RunLaws.{empty_chars, not_empty}
@@ -46,18 +51,18 @@ module _
     (t : line ≡ text_of md work copied from to)
     (a : Steps md work work out out₁ s p 393221 0 ends)
   where
-    pub title_small : (level x y : ℕ) → Titled line level x y → length (between line x y) ≤ 65536
-    title_small level x y v =
-        omega (arith, part_length line x y v.inside.order v.inside.bound, v.inside.bound, (given_small md work s copied from to line g t).0)
+    pub title_small : (h : Title) → Titled line h → length (part_text line h.text) ≤ 65536
+    title_small h v =
+        omega (arith, part_length line h.text.start h.text.end v.inside.order v.inside.bound, v.inside.bound, (given_small md work s copied from to line g t).0)
 
-    pub title_step : (level x y : ℕ) (out₂ : List ℕ) → Titled line level x y → r ≡ plain_after p (Heading level (spans (chars (between line x y))))
-        → out₂ ≡ sets out₁ p.at (encode_block (Heading level (spans (chars (between line x y)))))
+    pub title_step : (h : Title) (out₂ : List ℕ) → Titled line h → r ≡ plain_after p (Heading h.level (spans (chars (part_text line h.text))))
+        → out₂ ≡ sets out₁ p.at (encode_block (Heading h.level (spans (chars (part_text line h.text)))))
         → Steps md work work out out₂ s r 800000 (to - from) (heading (chars (text_of md work copied from to)))
-    title_step level x y out₂ v e f =
-        let b = Heading level (spans (chars (between line x y))) in
+    title_step h out₂ v e f =
+        let b = Heading h.level (spans (chars (part_text line h.text))) in
         steps_as md work work out out₂ s r 800000 0 800000 (to - from) (added b) (heading (chars (text_of md work copied from to))) (omega arith) (omega arith)
         (λ q. ap (λ (l : List ℕ). heading (chars l) q) (sym t) ∙ v.reads q)
-        (then_plain md work out out₁ out₂ s p r a b (λ more bs. refl) e f (omega (arith, block_small (headed level) (between line x y), title_small level x y v)))
+        (then_plain md work out out₁ out₂ s p r a b (λ more bs. refl) e f (omega (arith, block_small (headed h.level) (part_text line h.text), title_small h v)))
 
     pub opened_step : (work₁ : List ℕ) → ((q : Reader) → heading (chars line) q ≡ reader (flush q) (chars line))
         → Steps md work work₁ out₁ out₁ p r 0 (to - from) (starts_with_text (chars (text_of md work copied from to)))
@@ -69,24 +74,30 @@ module _
         (steps_then md work work work₁ out out₁ out₁ s p r 393221 0 0 (to - from) 393221 ends (starts_with_text T) (omega arith) a b)
 
 -- ---- an item
-module _ (line : List ℕ) (depth at stop from to : ℕ) (l : length line ≤ 65536) (v : MarkerAt line depth at stop from to) where
-  pub item_small : (length (between line from to) ≤ 65536) × (length (between line at stop) ≤ 9)
+module _ (line : List ℕ) (m : Marker) (l : length line ≤ 65536) (v : MarkerAt line m) where
+  abbrev text : List ℕ
+  text = part_text line m.text
+
+  abbrev digits : List ℕ
+  digits = part_text line m.digits
+
+  pub item_small : (length text ≤ 65536) × (length digits ≤ 9)
   item_small =
       let i = v.inside in
       let d = v.digits in
-      (omega (arith, part_length line from to i.order i.bound, i.bound), omega (arith, part_length line at stop d.order d.bound, v.few))
+      (omega (arith, part_length line m.text.start m.text.end i.order i.bound, i.bound), omega (arith, part_length line m.digits.start m.digits.end d.order d.bound, v.few))
 
   pub item_line : (md work out out₁ out₂ : List ℕ) (s p r : State) → Steps md work work out out₁ s p 393221 0 ends
-      → r ≡ item_after p depth (mark (between line at stop)) (spans (chars (between line from to)))
-      → out₂ ≡ sets out₁ p.at (encode_block (Item depth (mark (between line at stop)) (spans (chars (between line from to)))))
-      → Steps md work work out out₂ s r 800000 0 (added (Item depth (mark (between line at stop)) (spans (chars (between line from to)))))
+      → r ≡ item_after p m.depth (mark digits) (spans (chars text))
+      → out₂ ≡ sets out₁ p.at (encode_block (Item m.depth (mark digits) (spans (chars text))))
+      → Steps md work work out out₂ s r 800000 0 (added (Item m.depth (mark digits) (spans (chars text))))
   item_line md work out out₁ out₂ s p r a e f =
-      then_item md work out out₁ out₂ s p r a depth (mark (between line at stop)) (between line from to)
-      (kind_short (between line at stop) depth item_small.1 v.ascii) item_small.0 e f
+      then_item md work out out₁ out₂ s p r a m.depth (mark digits) text
+      (kind_short digits m.depth item_small.1 v.ascii) item_small.0 e f
 
 -- ---- a row
 -- the buffer changes while no paragraph is open
-moved_step : (md work work₁ out : List ℕ) (s : State) → Safe md work s → length work₁ ≡ length work → s.from ≡ s.to → Steps md work work₁ out out s s 0 0 (λ q. q)
+moved_step : (md work work₁ out : List ℕ) (s : State) → Safe md work s → length work₁ ≡ length work → s.text.part.start ≡ s.text.part.end → Steps md work work₁ out out s s 0 0 (λ q. q)
 moved_step md work work₁ out s u e z =
     record {
       holds = λ out₀ q v.
@@ -94,7 +105,7 @@ moved_step md work work₁ out s u e z =
             stored = v.stored;
             end = v.end;
             last = v.last;
-            paragraph = v.paragraph ∙ text_none md work s.copied s.from s.to z ∙ sym (text_none md work₁ s.copied s.from s.to z);
+            paragraph = v.paragraph ∙ text_none md work s.text.copied s.text.part.start s.text.part.end z ∙ sym (text_none md work₁ s.text.copied s.text.part.start s.text.part.end z);
           };
       safe = moved_safe md work work₁ s u e;
       grows = omega arith;
@@ -126,8 +137,8 @@ module _
         ∙ ap (λ (x : List ℕ). between x n (n + length T)) f
         ∙ stored_text md work T n (omega (arith, m))
 
-    pub row_made : (work₂ : List ℕ) (e : ℕ) (t : Range) → RowIs work₁ work₂ n (n + (to - from)) (n + n) e → length work₂ ≡ length work₁ → Trimmed work₂ (n + n) e t
-        → RowMade md work work₂ copied from to t
+    pub row_made : (work₂ : List ℕ) (e : ℕ) (t : Part) → RowIs work₁ work₂ n (n + (to - from)) (n + n) e → length work₂ ≡ length work₁ → Trimmed work₂ (n + n) e t
+        → RowMade md work work₂ (record { copied = copied; part = record { start = from; end = to } }) t
     row_made work₂ e t v l w =
         record {
           text = w.text ∙ v.text ∙ ap (λ (x : List ℕ). row (chars x)) row_part;
@@ -136,21 +147,21 @@ module _
           bound = omega (arith, w.high, v.high, l, row_size);
         }
 
-pub row_small : (md work work₁ : List ℕ) (copied : Bool) (from to : ℕ) (t : Range) → RowMade md work work₁ copied from to t
-    → length (between work₁ t.from t.to) ≤ 4 * (to - from)
-row_small md work work₁ copied from to t v = omega (arith, part_length work₁ t.from t.to v.order v.bound, v.long)
+pub row_small : (md work work₁ : List ℕ) (copied : Bool) (from to : ℕ) (t : Part) → RowMade md work work₁ (record { copied = copied; part = record { start = from; end = to } }) t
+    → length (between work₁ t.start t.end) ≤ 4 * (to - from)
+row_small md work work₁ copied from to t v = omega (arith, part_length work₁ t.start t.end v.order v.bound, v.long)
 
 -- the row becomes a paragraph
-pub row_text : (md work work₁ out out₁ out₂ : List ℕ) (s p r : State) (copied : Bool) (from to : ℕ) (t : Range) → Given md work s from to
-    → RowMade md work work₁ copied from to t → length work₁ ≡ length work → Steps md work work out out₁ s p 393221 0 ends
-    → r ≡ plain_after p (Paragraph (spans (chars (between work₁ t.from t.to))))
-    → out₂ ≡ sets out₁ p.at (encode_block (Paragraph (spans (chars (between work₁ t.from t.to)))))
+pub row_text : (md work work₁ out out₁ out₂ : List ℕ) (s p r : State) (copied : Bool) (from to : ℕ) (t : Part) → Given md work s from to
+    → RowMade md work work₁ (record { copied = copied; part = record { start = from; end = to } }) t → length work₁ ≡ length work → Steps md work work out out₁ s p 393221 0 ends
+    → r ≡ plain_after p (Paragraph (spans (chars (between work₁ t.start t.end))))
+    → out₂ ≡ sets out₁ p.at (encode_block (Paragraph (spans (chars (between work₁ t.start t.end)))))
     → Steps md work work₁ out out₂ s r 2000000 0 (added (Paragraph (spans (row (chars (text_of md work copied from to))))))
 row_text md work work₁ out out₁ out₂ s p r copied from to t g v l a h i =
-    let b = Paragraph (spans (chars (between work₁ t.from t.to))) in
-    let z : p.from ≡ p.to = omega (arith, a.short, a.safe.order) in
+    let b = Paragraph (spans (chars (between work₁ t.start t.end))) in
+    let z : p.text.part.start ≡ p.text.part.end = omega (arith, a.short, a.safe.order) in
     let c = moved_step md work work₁ out₁ p a.safe l z in
-    let y = block_small b.kind (between work₁ t.from t.to) in
+    let y = block_small b.kind (between work₁ t.start t.end) in
     let x = row_small md work work₁ copied from to t v in
     let k : length (encode_block b) ≤ 1600000 = omega (arith, g.bound, g.safe.small) in
     rw (← v.text)
@@ -163,56 +174,58 @@ row_text md work work₁ out out₁ out₂ s p r copied from to t g v l a h i =
 abbrev wrapped : List ℕ → Reader → Reader
 wrapped text r = if is_empty r.paragraph then continuation text r else paragraph text r
 
-continued_some : (bs : List Block) (s : State) (more : List Span) → ItemAt bs s → (cs : List Block) × (continued more bs ≡ some cs)
-continued_some bs s more w = (Item w.depth w.marker (w.spans ++ (plain_space ∷ more)) ∷ w.before, ap (continued more) w.is)
+continued_some : (bs : List Block) (i : OpenItem) (more : List Span) → ItemAt bs i → (cs : List Block) × (continued more bs ≡ some cs)
+continued_some bs i more w = (Item w.depth w.marker (w.spans ++ (plain_space ∷ more)) ∷ w.before, ap (continued more) w.is)
 
-module _ (s : State) where
-  start_fields : s.fields ≤ s.at → s.fields ≤ span_start s
-  start_fields h = on (λ (n : ℕ). s.fields ≤ n) (eqb s.count 0) (λ _. omega arith) (λ _. h)
+-- the offsets of an item that goes on
+item_safe : (at : ℕ) (i : OpenItem) (more : List Span) → SafeItem i at → SafeItem (item_continued i more) (span_start at i + 6 + length (encode_spans more))
+item_safe at i more u =
+    let m = spans_length more in
+    record {
+      head = u.head;
+      fields = on (λ (n : ℕ). i.fields ≤ n + 6 + length (encode_spans more)) (eqb i.count 0) (λ _. omega arith) (λ _. omega (arith, u.fields));
+      count = on (λ (n : ℕ). i.count + 1 + length more ≤ n + 6 + length (encode_spans more)) (eqb i.count 0) (λ e. omega (arith, eqb-true i.count 0 e)) (λ _. omega (arith, u.count));
+      map = u.map;
+    }
 
-  start_count : s.count ≤ s.at → s.count ≤ span_start s
-  start_count h = on (λ (n : ℕ). s.count ≤ n) (eqb s.count 0) (λ e. omega (arith, eqb-true s.count 0 e)) (λ _. h)
+-- an item goes on under an indented line where no paragraph is open
+module _ (s : State) (i : Bool) where
+  continues_some : (last : OpenItem) → Some last ≡ continues s i → (i ≡ true) × ((s.text.part.start ≡ s.text.part.end) × (s.item ≡ Some last))
+  continues_some last e = go (i && eqb s.text.part.start s.text.part.end) refl e
+    where
+      go : (t : Bool) → i && eqb s.text.part.start s.text.part.end ≡ t → Some last ≡ (if t then s.item else None) → (i ≡ true) × ((s.text.part.start ≡ s.text.part.end) × (s.item ≡ Some last))
+      go true p q = let c = and_true i (eqb s.text.part.start s.text.part.end) p in (c.0, (eqb-true _ _ c.1, sym q))
+      go false p q = cc
+
+  continues_none : i ≡ true → None ≡ continues s i → s.text.part.start ≡ s.text.part.end → s.item ≡ None
+  continues_none e q h = sym (q ∙ rw (e, eq-eqb s.text.part.start s.text.part.end h))
 
 module _ (md work : List ℕ) (s : State) (copied : Bool) (from to : ℕ) (g : Given md work s from to) where
-  continue_text : (out out₁ text : List ℕ) (r : State) → text ≡ text_of md work copied from to → s.item && eqb s.from s.to ≡ true
-      → r ≡ continued_after s (spans (chars text)) → out₁ ≡ continued_out s (spans (chars text)) out
+  continue_text : (last : OpenItem) (out out₁ text : List ℕ) (r : State) → text ≡ text_of md work copied from to → s.text.part.start ≡ s.text.part.end → s.item ≡ Some last
+      → r ≡ continued_after s last (spans (chars text)) → out₁ ≡ continued_out s last (spans (chars text)) out
       → Steps md work work out out₁ s r 400000 (grown s + (to - from)) (wrapped (chars (text_of md work copied from to)))
   unfolding continuation
-  continue_text out out₁ text r t b e f =
+  continue_text last out out₁ text r t z i e f =
       let more = spans (chars text) in
-      let c = and_true s.item (eqb s.from s.to) b in
-      let z = eqb-true s.from s.to c.1 in
       let u = g.safe in
       let l = (given_small md work s copied from to text g t).0 in
       let k = spans_small (chars text) in
-      let m = spans_length more in
       let x = size_chars text in
-      let y = start_low s u.fields in
-      let i = start_fields s u.fields in
-      let j = start_count s u.count in
+      let c = subst (λ (a : code.Option OpenItem). SafeLast a s.at) i u.last in
+      let y = start_low s.at last c.fields in
       rw (e, ← t)
       (record {
         holds = λ out₀ q v.
-            let p : q.paragraph ≡ [] = v.paragraph ∙ text_none md work s.copied s.from s.to z in
-            let w = continued_some q.blocks s more (subst (λ (a : Bool). LastIs a q.blocks s) c.0 v.last) in
-            let h = holds_continued md work out₀ out q s v more out₁ w.0 c.0 f w.1 in
+            let p : q.paragraph ≡ [] = v.paragraph ∙ text_none md work s.text.copied s.text.part.start s.text.part.end z in
+            let w = continued_some q.blocks last more (subst (λ (a : code.Option OpenItem). LastIs a q.blocks) i v.last) in
+            let h = holds_continued md work out₀ out q s v last more out₁ w.0 i f w.1 in
             rw (p, w.1) (rw p at h);
-        safe =
-            record {
-              small = u.small;
-              room = u.room;
-              order = u.order;
-              place = u.place;
-              head = u.head;
-              fields = omega arith;
-              count = omega arith;
-              map = u.map;
-            };
+        safe = record { small = u.small; room = u.room; order = u.order; place = u.place; last = item_safe s.at last more c };
         grows = omega arith;
         short = omega arith;
       })
 
-  wrapped_text : (work₁ out : List ℕ) (r : State) → s.item && eqb s.from s.to ≡ false
+  wrapped_text : (work₁ out : List ℕ) (r : State) → (s.text.part.start ≡ s.text.part.end → s.item ≡ None)
       → Steps md work work₁ out out s r 0 (grown s + (to - from)) (paragraph (chars (text_of md work copied from to)))
       → Steps md work work₁ out out s r 400000 (grown s + (to - from)) (wrapped (chars (text_of md work copied from to)))
   unfolding continuation
@@ -225,10 +238,6 @@ module _ (md work : List ℕ) (s : State) (copied : Bool) (from to : ℕ) (g : G
         short = a.short;
       }
     where
-      no_item : (t e : Bool) → e ≡ true → t && e ≡ false → t ≡ false
-      no_item true e h k = sym h ∙ k
-      no_item false e h k = refl
-
       both : {A : Type 0} (t : Bool) (x y : A) → x ≡ y → cond t x y ≡ y
       both true x y e = e
       both false x y e = refl
@@ -238,17 +247,17 @@ module _ (md work : List ℕ) (s : State) (copied : Bool) (from to : ℕ) (g : G
       same out₀ q v =
           ⊎_elim
           (λ e.
-          let i = no_item s.item (eqb s.from s.to) e b in
-          let w : (more : List Span) → continued more q.blocks ≡ none = subst (λ (a : Bool). LastIs a q.blocks s) i v.last in
+          let i = b (eqb-true _ _ e) in
+          let w : (more : List Span) → continued more q.blocks ≡ none = subst (λ (a : code.Option OpenItem). LastIs a q.blocks) i v.last in
           both (is_empty q.paragraph) (continuation (chars (text_of md work copied from to)) q) (paragraph (chars (text_of md work copied from to)) q)
           (rw (w (spans (chars (text_of md work copied from to))))))
           (λ e.
-          let n = eqb-false s.from s.to e in
-          let P = text_of md work s.copied s.from s.to in
-          let l = text_length md work s.copied s.from s.to (safe_inside md work s g.safe) in
+          let n = eqb-false s.text.part.start s.text.part.end e in
+          let P = text_of md work s.text.copied s.text.part.start s.text.part.end in
+          let l = text_length md work s.text.copied s.text.part.start s.text.part.end (safe_inside md work s g.safe) in
           let z : is_empty q.paragraph ≡ false = ap is_empty v.paragraph ∙ empty_chars P ∙ not_empty P (omega (arith, g.safe.order)) in
           rw z)
-          (decide (eqb s.from s.to))
+          (decide (eqb s.text.part.start s.text.part.end))
 
   -- ---- a line that neither starts with `#` nor has a list marker
   module _ (line : List ℕ) (t : line ≡ text_of md work copied from to) (i : Bool) (some : from < to) where
@@ -287,16 +296,16 @@ module _ (md work : List ℕ) (s : State) (copied : Bool) (from to : ℕ) (g : G
         joins : i ≡ false → (q : Reader) → after q ≡ paragraph (chars (text_of md work copied from to)) q
         joins e q = other q ∙ rw (e, and_false (is_empty q.paragraph) false refl)
 
-        pub continue_step : (out out₁ : List ℕ) (r : State) → i && (s.item && eqb s.from s.to) ≡ true
-            → r ≡ continued_after s (spans (chars line)) → out₁ ≡ continued_out s (spans (chars line)) out
+        pub continue_step : (last : OpenItem) (out out₁ : List ℕ) (r : State) → Some last ≡ continues s i
+            → r ≡ continued_after s last (spans (chars line)) → out₁ ≡ continued_out s last (spans (chars line)) out
             → Steps md work work out out₁ s r 2000000 (grown s + (to - from)) after
-        continue_step out out₁ r b e f =
-            let c = and_true i (s.item && eqb s.from s.to) b in
+        continue_step last out out₁ r b e f =
+            let c = continues_some s i last b in
             steps_as md work work out out₁ s r 400000 (grown s + (to - from)) 2000000 (grown s + (to - from)) (wrapped (chars (text_of md work copied from to))) after
             (omega arith) (omega arith) (wraps c.0)
-            (continue_text out out₁ line r t c.1 e f)
+            (continue_text last out out₁ line r t c.1.0 c.1.1 e f)
 
-        pub add_step : (work₁ out : List ℕ) (r : State) → i && (s.item && eqb s.from s.to) ≡ false
+        pub add_step : (work₁ out : List ℕ) (r : State) → None ≡ continues s i
             → Steps md work work₁ out out s r 0 (grown s + (to - from)) (paragraph (chars (text_of md work copied from to)))
             → Steps md work work₁ out out s r 2000000 (grown s + (to - from)) after
         add_step work₁ out r b a =
@@ -304,8 +313,12 @@ module _ (md work : List ℕ) (s : State) (copied : Bool) (from to : ℕ) (g : G
             (λ e.
             steps_as md work work₁ out out s r 400000 (grown s + (to - from)) 2000000 (grown s + (to - from)) (wrapped (chars (text_of md work copied from to))) after
             (omega arith) (omega arith) (wraps e)
-            (wrapped_text work₁ out r (rw e at b) a))
+            (wrapped_text work₁ out r (continues_none s i e b) a))
             (λ e.
             steps_as md work work₁ out out s r 0 (grown s + (to - from)) 2000000 (grown s + (to - from)) (paragraph (chars (text_of md work copied from to))) after
             (omega arith) (omega arith) (joins e) a)
             (decide i)
+
+-- the last item is where its record is
+pub last_safe : (md work : List ℕ) (s : State) (i : Bool) (last : OpenItem) → Safe md work s → Some last ≡ continues s i → SafeItem last s.at
+last_safe md work s i last u e = subst (λ (a : code.Option OpenItem). SafeLast a s.at) (continues_some s i last e).1.1 u.last

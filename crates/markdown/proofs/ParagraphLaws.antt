@@ -16,48 +16,14 @@ use Rattle.records.specs.Blocks.{Block}
 use Rattle.records.proofs.Stores.{sets_next}
 use Rattle.markdown.specs.Blocks.{Reader, joined, paragraph}
 use Rattle.text.specs.Part.{between, Inside}
-use Rattle.markdown.specs.Parts.{text_of}
-use Rattle.markdown.specs.State.{LastIs, Owned, Placed, Safe, grown, Given, Steps, starts_with_text}
+use Rattle.markdown.specs.Parts.{lent, copied as copied_at, text_of}
+use Rattle.markdown.specs.State.{Owned, Placed, Safe, grown, Given, Steps, starts_with_text}
+use Rattle.markdown.specs.declared.lines.Text.{Text}
 use Rattle.markdown.specs.declared.writer.State.{State}
 use Rattle.markdown.proofs.PartLaws.{part_none, part_length}
 use Rattle.markdown.proofs.RunLaws.{empty_chars, not_empty}
 use Rattle.markdown.proofs.CellFill.{sets_part, sets_below, part_below}
 use Rattle.markdown.proofs.StateLaws.{placed, given_small, safe_inside, safe_long, text_length, text_none}
-
--- ---- a copy within the buffer
-pub record Copies (work₀ work : List ℕ) (from to at i : ℕ) : Type 0 where
-  pub left : sets work (at + i) (drop i (between work₀ from to)) ≡ sets work₀ at (between work₀ from to)
-  pub same : take at work ≡ take at work₀
-  pub size : length work ≡ length work₀
-  pub bound : i ≤ to - from
-
-module _ (work₀ : List ℕ) (from to at : ℕ) where
-  pub copies_none : Copies work₀ work₀ from to at 0
-  copies_none = record { left = ap (λ (n : ℕ). sets work₀ n (between work₀ from to)) (add-zero at); same = refl; size = refl; bound = omega arith }
-
-  module _ (work : List ℕ) (i : ℕ) (v : Copies work₀ work from to at i) (o : from ≤ to) (h : to ≤ at) (l : at + (to - from) ≤ length work₀) where
-    pub copies_more : i < to - from → Copies work₀ (set work (at + i) (get_or work (from + i) 0)) from to at (i + 1)
-    copies_more m =
-        let P = between work₀ from to in
-        let n = part_length work₀ from to o (omega arith) in
-        let e : get_or work (from + i) 0 ≡ get_or P i 0 =
-        sym (get_or-take at work (from + i) 0 (omega arith))
-        ∙ ap (λ (x : List ℕ). get_or x (from + i) 0) v.same
-        ∙ get_or-take at work₀ (from + i) 0 (omega arith)
-        ∙ sym (get_or-take (to - from) (drop from work₀) i 0 m ∙ get_or-drop from work₀ i 0)
-        in
-        record {
-          left = rw e (sets_next work P at i (omega arith) ∙ v.left);
-          same = take-set-le at work (at + i) (get_or work (from + i) 0) (omega arith) ∙ v.same;
-          size = length-set work (at + i) (get_or work (from + i) 0) ∙ v.size;
-          bound = omega arith;
-        }
-
-    pub copies_all : to - from ≤ i → work ≡ sets work₀ at (between work₀ from to)
-    copies_all m =
-        let n = part_length work₀ from to o (omega arith) in
-        let d : drop i (between work₀ from to) ≡ [] = drop_of_length-le (between work₀ from to) {i = i} (omega arith) in
-        rw d at v.left
 
 -- ---- the text of a line stays where it is while the buffer changes behind it
 pub text_below : (md work₀ work : List ℕ) (copied : Bool) (from to : ℕ) → to ≤ length md → take (length md) work ≡ take (length md) work₀
@@ -70,22 +36,6 @@ text_below md work₀ work false from to h e = refl
 pub stored_text : (md work text : List ℕ) (at : ℕ) → at + length text ≤ length work → between (sets work at text) at (at + length text) ≡ text
 stored_text md work text at h = sets_part work at text h at (omega arith) ∙ rw (part_none work at)
 
--- the last block is where it was
-last_placed : (t : Bool) (bs : List Block) (s : State) (c : Bool) (f e : ℕ) → LastIs t bs s → LastIs t bs (placed s c f e)
-last_placed true bs s c f e w =
-    record {
-      depth = w.depth;
-      marker = w.marker;
-      spans = w.spans;
-      before = w.before;
-      is = w.is;
-      head = w.head;
-      map = w.map;
-      fields = w.fields;
-      count = w.count;
-    }
-last_placed false bs s c f e w = w
-
 module _ (md work : List ℕ) (s : State) (copied : Bool) (from to : ℕ) (g : Given md work s from to) where
   abbrev T : List ℕ
   T = text_of md work copied from to
@@ -94,22 +44,21 @@ module _ (md work : List ℕ) (s : State) (copied : Bool) (from to : ℕ) (g : G
   n = length md
 
   -- ---- a new paragraph
-  placed_safe : (work₁ : List ℕ) (c : Bool) (f t : ℕ) → length work₁ ≡ length work → f ≤ t → Placed c n f t → Safe md work₁ (placed s c f t)
-  placed_safe work₁ c f t e o p =
-      let u = g.safe in
-      record { small = u.small; room = omega (arith, u.room); order = o; place = p; head = u.head; fields = u.fields; count = u.count; map = u.map }
+  placed_safe : (work₁ : List ℕ) (t : Text) → length work₁ ≡ length work → t.part.start ≤ t.part.end → Placed t.copied n t.part.start t.part.end → Safe md work₁ (placed s t)
+  placed_safe work₁ t e o p = let u = g.safe in record { small = u.small; room = omega (arith, u.room); order = o; place = p; last = u.last }
 
-  pub open_part : copied ≡ false → (out : List ℕ) → Steps md work work out out s (placed s false from to) 0 (to - from) (starts_with_text (chars T))
+  pub open_part : copied ≡ false → (out : List ℕ)
+      → Steps md work work out out s (placed s (record { copied = copied; part = record { start = from; end = to } })) 0 (to - from) (starts_with_text (chars T))
   open_part e out =
       record {
-        holds = λ out₀ q v. record { stored = v.stored; end = v.end; last = last_placed s.item _ s _ _ _ v.last; paragraph = rw e };
-        safe = placed_safe work false from to refl g.order g.bound;
+        holds = λ out₀ q v. record { stored = v.stored; end = v.end; last = v.last; paragraph = refl };
+        safe = placed_safe work (record { copied = copied; part = record { start = from; end = to } }) refl g.order (rw e g.bound);
         grows = omega arith;
         short = omega arith;
       }
 
   pub open_copied : (work₁ : List ℕ) → copied ≡ true → work₁ ≡ sets work n (text_of md work true from to) → (out : List ℕ)
-      → Steps md work work₁ out out s (placed s true n (n + (to - from))) 0 (to - from) (starts_with_text (chars T))
+      → Steps md work work₁ out out s (placed s (copied_at n (n + (to - from)))) 0 (to - from) (starts_with_text (chars T))
   unfolding text_of
   open_copied work₁ e f out =
       let m = (given_small md work s true from to (text_of md work true from to) g refl).1 in
@@ -122,19 +71,19 @@ module _ (md work : List ℕ) (s : State) (copied : Bool) (from to : ℕ) (g : G
       ∙ stored_text md work (text_of md work true from to) n (omega arith)
       in
       record {
-        holds = λ out₀ q v. record { stored = v.stored; end = v.end; last = last_placed s.item _ s _ _ _ v.last; paragraph = ap chars (rw e (sym p)) };
-        safe = placed_safe work₁ true n (n + (to - from)) (ap length f ∙ length-sets work n (text_of md work true from to)) (omega arith) (refl, omega arith);
+        holds = λ out₀ q v. record { stored = v.stored; end = v.end; last = v.last; paragraph = ap chars (rw e (sym p)) };
+        safe = placed_safe work₁ (copied_at n (n + (to - from))) (ap length f ∙ length-sets work n (text_of md work true from to)) (omega arith) (refl, omega arith);
         grows = omega arith;
         short = omega arith;
       }
 
   -- ---- a line joins the paragraph
-  module _ (some : s.from < s.to) (fits : (s.to - s.from) + 1 + (to - from) ≤ n) where
+  module _ (some : s.text.part.start < s.text.part.end) (fits : (s.text.part.end - s.text.part.start) + 1 + (to - from) ≤ n) where
     abbrev k : ℕ
-    k = s.to - s.from
+    k = s.text.part.end - s.text.part.start
 
-    P_size : length (text_of md work s.copied s.from s.to) ≡ k
-    P_size = text_length md work s.copied s.from s.to (safe_inside md work s g.safe)
+    P_size : length (text_of md work s.text.copied s.text.part.start s.text.part.end) ≡ k
+    P_size = text_length md work s.text.copied s.text.part.start s.text.part.end (safe_inside md work s g.safe)
 
     joined_chars : (a b : List ℕ) → 1 ≤ length a → chars (a ++ (32 ∷ b)) ≡ joined (chars a) (chars b)
     joined_chars a b h =
@@ -148,7 +97,7 @@ module _ (md work : List ℕ) (s : State) (copied : Bool) (from to : ℕ) (g : G
 
     pub join_text : (work₁ work₂ work₃ : List ℕ) → Owned md work work₁ s → work₂ ≡ sets work₁ (n + k) (32 ∷ [])
         → work₃ ≡ sets work₂ (n + k + 1) (text_of md work₂ copied from to) → (out : List ℕ)
-        → Steps md work work₃ out out s (placed s true n (n + k + 1 + (to - from))) 0 (k + 1 + (to - from)) (paragraph (chars T))
+        → Steps md work work₃ out out s (placed s (copied_at n (n + k + 1 + (to - from)))) 0 (k + 1 + (to - from)) (paragraph (chars T))
     unfolding text_of paragraph
     join_text work₁ work₂ work₃ w e f out =
         let u = g.safe.room in
@@ -168,31 +117,31 @@ module _ (md work : List ℕ) (s : State) (copied : Bool) (from to : ℕ) (g : G
         ∙ sets_part work₂ (n + k + 1) T r₂ n (omega arith)
         ∙ ap (λ (l : List ℕ). l ++ T) e₂
         in
-        let p : chars (between work₃ n (n + k + 1 + (to - from))) ≡ joined (chars (text_of md work s.copied s.from s.to)) (chars T) =
+        let p : chars (between work₃ n (n + k + 1 + (to - from))) ≡ joined (chars (text_of md work s.text.copied s.text.part.start s.text.part.end)) (chars T) =
         ap chars (e₃ ∙ append_assoc (between work₁ n (n + k)) (32 ∷ []) T ∙ ap (λ (l : List ℕ). l ++ (32 ∷ T)) w.text)
-        ∙ joined_chars (text_of md work s.copied s.from s.to) T (omega (arith, P_size))
+        ∙ joined_chars (text_of md work s.text.copied s.text.part.start s.text.part.end) T (omega (arith, P_size))
         in
         record {
-          holds = λ out₀ q v. record { stored = v.stored; end = v.end; last = last_placed s.item _ s _ _ _ v.last; paragraph = ap (λ (l : List ℕ). joined l (chars T)) v.paragraph ∙ sym p };
-          safe = placed_safe work₃ true n (n + k + 1 + (to - from)) (ap length f₃ ∙ length-sets work₂ (n + k + 1) T ∙ z₂ ∙ z) (omega arith) (refl, omega arith);
+          holds = λ out₀ q v. record { stored = v.stored; end = v.end; last = v.last; paragraph = ap (λ (l : List ℕ). joined l (chars T)) v.paragraph ∙ sym p };
+          safe = placed_safe work₃ (copied_at n (n + k + 1 + (to - from))) (ap length f₃ ∙ length-sets work₂ (n + k + 1) T ∙ z₂ ∙ z) (omega arith) (refl, omega arith);
           grows = omega arith;
           short = omega arith;
         }
 
 -- ---- the paragraph copied
-pub owned_there : (md work : List ℕ) (s : State) → Safe md work s → s.copied ≡ true → Owned md work work s
+pub owned_there : (md work : List ℕ) (s : State) → Safe md work s → s.text.copied ≡ true → Owned md work work s
 unfolding text_of
 owned_there md work s u e =
-    let p : (s.from ≡ length md) × (s.to ≤ length md + length md) = rw e at u.place in
-    let q : length md + (s.to - s.from) ≡ s.to = omega (arith, p.0, u.order) in
+    let p : (s.text.part.start ≡ length md) × (s.text.part.end ≤ length md + length md) = rw e at u.place in
+    let q : length md + (s.text.part.end - s.text.part.start) ≡ s.text.part.end = omega (arith, p.0, u.order) in
     record { text = rw (q, e, p.0); below = refl; size = refl }
 
-pub owned_copied : (md work work₁ : List ℕ) (s : State) → Safe md work s → s.copied ≡ false
-    → work₁ ≡ sets work (length md) (text_of md work false s.from s.to) → Owned md work work₁ s
+pub owned_copied : (md work work₁ : List ℕ) (s : State) → Safe md work s → s.text.copied ≡ false
+    → work₁ ≡ sets work (length md) (text_of md work false s.text.part.start s.text.part.end) → Owned md work work₁ s
 owned_copied md work work₁ s u e f =
-    let t = text_of md work false s.from s.to in
-    let i : Inside md s.from s.to = rw e at (safe_inside md work s u) in
-    let m : length t ≡ s.to - s.from = text_length md work false s.from s.to i in
+    let t = text_of md work false s.text.part.start s.text.part.end in
+    let i : Inside md s.text.part.start s.text.part.end = rw e at (safe_inside md work s u) in
+    let m : length t ≡ s.text.part.end - s.text.part.start = text_length md work false s.text.part.start s.text.part.end i in
     let l = safe_long md work s u in
     let r : length md + length t ≤ length work = omega (arith, u.room) in
     record {
@@ -202,20 +151,20 @@ owned_copied md work work₁ s u e f =
     }
 
 -- ---- a line of the open paragraph, or of a new one
-pub add_first : (md work work₁ out : List ℕ) (s r : State) (cost from to : ℕ) (text : List ℕ) → s.from ≡ s.to
+pub add_first : (md work work₁ out : List ℕ) (s r : State) (cost from to : ℕ) (text : List ℕ) → s.text.part.start ≡ s.text.part.end
     → Steps md work work₁ out out s r cost (to - from) (starts_with_text text) → Steps md work work₁ out out s r cost (grown s + (to - from)) (paragraph text)
 unfolding paragraph
 add_first md work work₁ out s r cost from to text e a =
     record {
       holds = λ out₀ q v.
-          let z : q.paragraph ≡ [] = v.paragraph ∙ text_none md work s.copied s.from s.to e in
+          let z : q.paragraph ≡ [] = v.paragraph ∙ text_none md work s.text.copied s.text.part.start s.text.part.end e in
           rw z (a.holds out₀ q v);
       safe = a.safe;
       grows = a.grows;
       short = omega (arith, a.short);
     }
 
-pub add_more : (md work work₁ out : List ℕ) (s r : State) (cost from to : ℕ) (f : Reader → Reader) → s.from < s.to
-    → Steps md work work₁ out out s r cost ((s.to - s.from) + 1 + (to - from)) f → Steps md work work₁ out out s r cost (grown s + (to - from)) f
+pub add_more : (md work work₁ out : List ℕ) (s r : State) (cost from to : ℕ) (f : Reader → Reader) → s.text.part.start < s.text.part.end
+    → Steps md work work₁ out out s r cost ((s.text.part.end - s.text.part.start) + 1 + (to - from)) f → Steps md work work₁ out out s r cost (grown s + (to - from)) f
 add_more md work work₁ out s r cost from to f h a =
     record { holds = a.holds; safe = a.safe; grows = a.grows; short = omega (arith, a.short) }

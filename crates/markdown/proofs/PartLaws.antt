@@ -1,12 +1,12 @@
 -- The laws of parts of a list, and of a part without the spaces at its ends.
 -- Assumes nothing.
 use Prim.Native.Nat.{ℕ, zero, suc, ◌+◌, ◌-◌, ◌≤◌}
-use mathlib.Core.List.{List, [], ◌∷◌}
+use mathlib.Core.List.{List, [], ◌∷◌, ◌++◌}
 use mathlib.Core.Path.{◌≡◌, sym, ap, ◌∙◌}
 use native.Mathlib.Omega.{arith}
 use native.Mathlib.Nat.{sub-zero, suc-sub-suc}
 use lib.ListN.{length, take, drop, length-drop}
-use lib.Seq.{take-take, drop-drop, take-nil, length-take-le, take-length, take_all}
+use lib.Seq.{paste, sets, sets-eq, take-take, drop-drop, take-nil, length-take-le, take-length, take_all}
 use Rattle.text.specs.Utf8.{encode, chars}
 use Rattle.text.specs.Trim.{trim_start, trim_end, start_of, end_of}
 use Rattle.text.proofs.TrimLaws.{drop_start, chars_start, start_le, end_le, take_end, chars_end}
@@ -42,7 +42,7 @@ pub start_in : (s : List ℕ) (from to k : ℕ) → Inside s from to → k ≡ s
 start_in s from to k v e = let o = v.order in omega (arith, e, start_le (between s from to), part_length s from to o v.bound)
 
 pub trimmed_is : (s : List ℕ) (from to k m : ℕ) → Inside s from to → k ≡ start_of (between s from to) → m ≡ end_of (between s (from + k) to)
-    → Trimmed s from to (record { from = from + k; to = from + k + m })
+    → Trimmed s from to (record { start = from + k; end = from + k + m })
 trimmed_is s from to k m v e f =
     let o = v.order in
     let b = v.bound in
@@ -67,3 +67,10 @@ trimmed_is s from to k m v e f =
       start = ap (λ (x : ℕ). from + x) e;
       text = ap chars t ∙ chars_end (between s (from + k) to) ∙ ap trim_end c;
     }
+
+-- a part stored elsewhere in its list
+pub copied_part : (s : List ℕ) (from to at : ℕ) → from ≤ to → to ≤ length s → at + (to - from) ≤ length s
+    → paste s at (drop from s) (to - from) ≡ sets s at (between s from to)
+copied_part s from to at o b f =
+    let n = part_length s from to o b in
+    sym (sets-eq (between s from to) s at (omega arith) ∙ ap (λ (k : ℕ). take at s ++ between s from to ++ drop (at + k) s) n)

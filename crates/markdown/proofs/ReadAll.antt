@@ -47,7 +47,7 @@ reading_none md work out h e r =
       left = refl;
       scalars = (chars_cleaned md e).1;
       safe =
-          record { small = h; room = r; order = omega arith; place = omega arith; head = omega arith; fields = omega arith; count = omega arith; map = omega arith };
+          record { small = h; room = r; order = omega arith; place = omega arith; last = tt };
       low = omega arith;
       short = omega arith;
       bound = omega arith;
@@ -60,10 +60,10 @@ holds_kept : (md work work₁ out₀ out : List ℕ) (q : Reader) (s : State) �
     → Holds md work out₀ out q s → Holds md work₁ out₀ out q s
 unfolding text_of
 holds_kept md work work₁ out₀ out q s u e v =
-    record { stored = v.stored; end = v.end; last = v.last; paragraph = v.paragraph ∙ ap chars (go s.copied u.place) }
+    record { stored = v.stored; end = v.end; last = v.last; paragraph = v.paragraph ∙ ap chars (go s.text.copied u.place) }
   where
-    go : (c : Bool) → Placed c (length md) s.from s.to → between (source c md work) s.from s.to ≡ between (source c md work₁) s.from s.to
-    go true p = rw p.0 (ap (take (s.to - length md)) (sym e))
+    go : (c : Bool) → Placed c (length md) s.text.part.start s.text.part.end → between (source c md work) s.text.part.start s.text.part.end ≡ between (source c md work₁) s.text.part.start s.text.part.end
+    go true p = rw p.0 (ap (take (s.text.part.end - length md)) (sym e))
     go false p = refl
 
 module _ (md work₀ work out₀ out : List ℕ) (i : ℕ) (s : State) (v : Reading md work₀ work out₀ out i s) where
@@ -79,7 +79,7 @@ module _ (md work₀ work out₀ out : List ℕ) (i : ℕ) (s : State) (v : Read
       (subst Scalars (ap chars (sym (until_since 10 S)) ∙ chars_append (until 10 S) (since 10 S) (since_lead 10 (omega arith) S)) v.scalars)
 
   module _ (work₁ : List ℕ) (l : Line) (h : i < length md) (w : LineIs md i work work₁ l) (z : length work₁ ≡ length work) where
-    pub reading_line : LineGiven md work₁ s l
+    pub reading_line : LineGiven md work₁ s l.text
     reading_line =
         record {
           safe = moved_safe md work work₁ s v.safe z;
@@ -91,11 +91,11 @@ module _ (md work₀ work out₀ out : List ℕ) (i : ℕ) (s : State) (v : Read
         }
 
     pub reading_next : (work₂ out₁ : List ℕ) (r : State) → length work₂ ≡ length work₁ → length out₁ ≡ length out
-        → Steps md work₁ work₂ out out₁ s r 2000000 (grown s + (l.to - l.from)) (λ q. read_line q (chars (text_of md work₁ l.copied l.from l.to)))
+        → Steps md work₁ work₂ out out₁ s r 2000000 (grown s + (l.text.part.end - l.text.part.start)) (λ q. read_line q (chars (text_of md work₁ l.text.copied l.text.part.start l.text.part.end)))
         → Reading md work₀ work₂ out₀ out₁ l.next r
     reading_next work₂ out₁ r y x a =
         let q = v.now in
-        let T = text_of md work₁ l.copied l.from l.to in
+        let T = text_of md work₁ l.text.copied l.text.part.start l.text.part.end in
         let b = w.short in
         let o = w.order in
         record {
@@ -118,11 +118,11 @@ module _ (md work₀ work out₀ out : List ℕ) (i : ℕ) (s : State) (v : Read
         }
 
   -- an empty line changes nothing where no paragraph is open
-  pub reading_blank : i < length md → get_or md i 0 ≡ 10 → s.from ≡ s.to → Reading md work₀ work out₀ out (i + 1) s
+  pub reading_blank : i < length md → get_or md i 0 ≡ 10 → s.text.part.start ≡ s.text.part.end → Reading md work₀ work out₀ out (i + 1) s
   unfolding text_of read_line flush drop_while trim_end_matches
   reading_blank h e o =
       let c = at_break md i h e in
-      let q : s.to - s.from ≡ 0 = omega arith in
+      let q : s.text.part.end - s.text.part.start ≡ 0 = omega arith in
       let p : v.now.paragraph ≡ [] = v.holds.paragraph ∙ rw (q, chars_nil) in
       let z : read_line v.now [] ≡ v.now = rw p in
       record {

@@ -22,7 +22,7 @@ use Rattle.markdown.specs.Blocks.{cleaned}
 use Rattle.text.specs.Part.{between}
 use Rattle.text.specs.Find.{closed, comment_end}
 use Rattle.text.proofs.CloseLaws.{end_left, end_bounds}
-use Rattle.markdown.specs.Parts.{first_line, other_lines, text_of, quiet, CommentedIs, LineIs}
+use Rattle.markdown.specs.Parts.{copied, lent, first_line, other_lines, text_of, quiet, CommentedIs, LineIs}
 use Rattle.markdown.specs.declared.lines.Line.{Line}
 use Rattle.markdown.proofs.CommentLaws.{comment_goes, other_stays}
 
@@ -65,7 +65,7 @@ module _ (s : List ℕ) (start have : ℕ) (work₀ : List ℕ) where
 
   module _ (work : List ℕ) (j k : ℕ) (v : Copying s start have work₀ work j k) where
     abbrev ended : Line
-    ended = record { copied = true; from = 0; to = k; next = j + 1 }
+    ended = record { text = copied 0 k; next = j + 1 }
 
     pub copied_break : j < length s → get_or s j 0 ≡ 10 → CommentedIs s start have work₀ work ended
     copied_break l e =
@@ -176,7 +176,7 @@ module _ (s : List ℕ) (i : ℕ) where
 
     module _ (work : List ℕ) where
       abbrev passed : Line
-      passed = record { copied = false; from = i; to = j; next = j + 1 }
+      passed = record { text = lent i j; next = j + 1 }
 
       pub passed_break : j < length s → get_or s j 0 ≡ 10 → LineIs s i work work passed
       unfolding text_of
@@ -221,7 +221,7 @@ module _ (s : List ℕ) (i : ℕ) where
           let n : length (between s i j) ≡ j - i = length-take-le (j - i) (drop i s) (rw (length-drop i s) (omega arith)) in
           let f : work₁ ≡ between s i j ++ drop (length (between s i j)) work = e ∙ sets_front work (between s i j) (omega arith) in
           let t : take (j - i) work₁ ≡ between s i j = ap (take (j - i)) f ∙ take_at (between s i j) (drop (length (between s i j)) work) (j - i) n in
-          let z : r.to - 0 ≡ r.to = omega arith in
+          let z : r.text.part.end - 0 ≡ r.text.part.end = omega arith in
           let m : length work₁ ≡ length work = ap length e ∙ length-sets work 0 (between s i j) in
           let o = p.first in
           let y = p.short in

@@ -26,8 +26,9 @@ use Rattle.spans.specs.Spans.{spans}
 use Rattle.spans.proofs.Marks.{starts_byte}
 use Rattle.markdown.specs.Blocks.{is_rule, marked, marker_at, list_marker, row, Reader, reader, flush, added, heading, paragraph, continuation, read_text, read_line}
 use Rattle.text.specs.Part.{between, Inside}
-use Rattle.markdown.specs.Shape.{Trimmed, Titled, mark, MarkerAt}
-use Rattle.markdown.specs.declared.shape.Range.{Range}
+use Rattle.markdown.specs.Shape.{marker, part_text, Trimmed, Titled, mark, MarkerAt}
+use Rattle.text.specs.declared.Part.{Part}
+use Rattle.markdown.specs.declared.shape.Marker.{Marker}
 use Rattle.markdown.proofs.PartLaws.{part_from, part_none}
 use Rattle.markdown.proofs.RunLaws.{run_chars, same_low, empty_chars}
 
@@ -60,7 +61,7 @@ module _ (t : List ℕ) (level : ℕ) (e : level ≡ length (take_while (λ (x :
     pub title_inside : Inside t level (length t)
     title_inside = record { order = omega (arith, starts_room (32 ∷ []) t level (omega arith) h); bound = omega arith }
 
-    pub title_is : (l : ℕ) (g : Range) → level ≤ 6 → Trimmed t level (length t) g → l ≡ min level 3 → Titled t l g.from g.to
+    pub title_is : (l : ℕ) (g : Part) → level ≤ 6 → Trimmed t level (length t) g → l ≡ min level 3 → Titled t (record { level = l; text = g })
     title_is l g m v q =
         record {
           low = omega arith;
@@ -138,7 +139,7 @@ module _ (line : List ℕ) (at : ℕ) (e : at ≡ start_of line) where
     pub bullet_inside : Inside line (at + 2) (length line)
     bullet_inside = record { order = bullet_size; bound = omega arith }
 
-    pub bullet_is : (g : Range) → Trimmed line (at + 2) (length line) g → MarkerAt line (at / 2) at at g.from g.to
+    pub bullet_is : (g : Part) → Trimmed line (at + 2) (length line) g → MarkerAt line (marker at at g)
     bullet_is g v =
         record {
           digits = record { order = omega arith; bound = marker_in };
@@ -203,8 +204,8 @@ module _ (line : List ℕ) (at : ℕ) (e : at ≡ start_of line) where
         digits_part : between line at stop ≡ digits
         digits_part = let q : stop - at ≡ length digits = omega arith in rw q (run_take is_digit rest)
 
-        pub ordinal_is : (g : Range) → (stop ≡ at → ⊥) → stop - at ≤ 9 → Trimmed line (stop + 2) (length line) g
-            → MarkerAt line (at / 2) at stop g.from g.to
+        pub ordinal_is : (g : Part) → (stop ≡ at → ⊥) → stop - at ≤ 9 → Trimmed line (stop + 2) (length line) g
+            → MarkerAt line (marker at stop g)
         ordinal_is g z m v =
             record {
               digits = record { order = omega arith; bound = digits_in };
@@ -277,9 +278,9 @@ module _ (line : List ℕ) (a b : ℕ) (t : chars (between line a b) ≡ trim (c
     line_hash e r = not_blank r ∙ rw (eq-eqb (get_or line a 0) 35 e)
 
     module _ (other : get_or line a 0 ≡ 35 → ⊥) where
-      pub line_item : (depth at stop from to : ℕ) → MarkerAt line depth at stop from to → (r : Reader)
-          → read_line r (chars line) ≡ added (Item depth (mark (between line at stop)) (spans (chars (between line from to)))) r
-      line_item depth at stop from to v r = not_blank r ∙ rw (ne_eqb (get_or line a 0) 35 other, v.reads)
+      pub line_item : (m : Marker) → MarkerAt line m → (r : Reader)
+          → read_line r (chars line) ≡ added (Item m.depth (mark (part_text line m.digits)) (spans (chars (part_text line m.text)))) r
+      line_item m v r = not_blank r ∙ rw (ne_eqb (get_or line a 0) 35 other, v.reads)
 
       pub line_text : list_marker (chars line) ≡ none → (r : Reader) → read_line r (chars line) ≡ read_text r (eqb (get_or line 0 0) 32) (chars (between line a b))
       line_text e r =

@@ -19,8 +19,12 @@ use Rattle.records.proofs.Stores.{sets_append}
 use Rattle.spans.specs.Spans.{spans}
 use Rattle.spans.proofs.Bounds.{spans_small}
 use Rattle.markdown.specs.Blocks.{Reader, reader, flush, added, continued, plain_space}
-use Rattle.markdown.specs.Parts.{source, text_of}
+use Rattle.markdown.specs.Parts.{source, lent, text_of}
 use Rattle.markdown.specs.State.{counted, plain_after, item_after, continued_after, continued_out, ItemAt, LastIs, Holds, Placed, Safe, Given, Steps, ends}
+use Rattle.std.specs.Prelude.{Some, None}
+use Rattle.std.specs.Prelude as code
+use Rattle.markdown.specs.declared.lines.Text.{Text}
+use Rattle.markdown.specs.declared.writer.OpenItem.{OpenItem}
 use Rattle.markdown.specs.declared.writer.State.{State}
 use Rattle.markdown.proofs.PartLaws.{part_none, part_length}
 use Rattle.markdown.proofs.RunLaws.{empty_chars, not_empty}
@@ -28,36 +32,25 @@ use Rattle.markdown.proofs.StoreLaws.{block_length, bits_low}
 use Rattle.markdown.proofs.GrowLaws.{blocks_last, grow}
 
 -- the paragraph is put elsewhere
-abbrev pub placed : State → Bool → ℕ → ℕ → State
-placed s copied from to =
-    record {
-      at = s.at;
-      item = s.item;
-      head = s.head;
-      map = s.map;
-      fields = s.fields;
-      count = s.count;
-      copied = copied;
-      from = from;
-      to = to;
-    }
+abbrev pub placed : State → Text → State
+placed s text = record { at = s.at; item = s.item; text = text }
 
 -- the paragraph is closed
 abbrev closed : State → State
-closed s = placed s false 0 0
+closed s = placed s (lent 0 0)
 
 -- ---- offsets
-pub safe_inside : (md work : List ℕ) (s : State) → Safe md work s → Inside (source s.copied md work) s.from s.to
-safe_inside md work s v = go s.copied v.place
+pub safe_inside : (md work : List ℕ) (s : State) → Safe md work s → Inside (source s.text.copied md work) s.text.part.start s.text.part.end
+safe_inside md work s v = go s.text.copied v.place
   where
-    go : (c : Bool) → Placed c (length md) s.from s.to → Inside (source c md work) s.from s.to
+    go : (c : Bool) → Placed c (length md) s.text.part.start s.text.part.end → Inside (source c md work) s.text.part.start s.text.part.end
     go true p = record { order = v.order; bound = omega (arith, v.room, p.1) }
     go false p = record { order = v.order; bound = p }
 
-pub safe_long : (md work : List ℕ) (s : State) → Safe md work s → s.to - s.from ≤ length md
-safe_long md work s v = go s.copied v.place
+pub safe_long : (md work : List ℕ) (s : State) → Safe md work s → s.text.part.end - s.text.part.start ≤ length md
+safe_long md work s v = go s.text.copied v.place
   where
-    go : (c : Bool) → Placed c (length md) s.from s.to → s.to - s.from ≤ length md
+    go : (c : Bool) → Placed c (length md) s.text.part.start s.text.part.end → s.text.part.end - s.text.part.start ≤ length md
     go true p = omega (arith, p.0, p.1)
     go false p = omega arith
 
@@ -128,20 +121,20 @@ module _ (md work out₀ out : List ℕ) (q : Reader) (s : State) (v : Holds md 
       }
 
   -- the last item goes on
-  pub holds_continued : (more : List Span) (out₁ : List ℕ) (bs : List Block) → s.item ≡ true → out₁ ≡ continued_out s more out
-      → continued more q.blocks ≡ some bs → Holds md work out₀ out₁ (reader bs q.paragraph) (continued_after s more)
-  holds_continued more out₁ bs i e f =
-      let w : ItemAt q.blocks s = subst (λ (t : Bool). LastIs t q.blocks s) i v.last in
+  pub holds_continued : (last : OpenItem) (more : List Span) (out₁ : List ℕ) (bs : List Block) → s.item ≡ Some last → out₁ ≡ continued_out s last more out
+      → continued more q.blocks ≡ some bs → Holds md work out₀ out₁ (reader bs q.paragraph) (continued_after s last more)
+  holds_continued last more out₁ bs i e f =
+      let w : ItemAt q.blocks last = subst (λ (t : code.Option OpenItem). LastIs t q.blocks) i v.last in
       let b = Item w.depth w.marker w.spans in
       let b' = Item w.depth w.marker (w.spans ++ (plain_space ∷ more)) in
       let E₀ = encode_blocks (reverse w.before) in
       let p : encode_blocks (reverse q.blocks) ≡ E₀ ++ encode_block b = ap (λ (l : List Block). encode_blocks (reverse l)) w.is ∙ blocks_last b w.before in
-      let n : 0 + length E₀ ≡ s.head = omega (arith, w.head) in
-      let o : out ≡ sets (sets out₀ 0 E₀) s.head (encode_block b) =
+      let n : 0 + length E₀ ≡ last.head = omega (arith, w.head) in
+      let o : out ≡ sets (sets out₀ 0 E₀) last.head (encode_block b) =
       v.stored ∙ ap (sets out₀ 0) p ∙ sets_append out₀ 0 E₀ (encode_block b) ∙ ap (λ (j : ℕ). sets (sets out₀ 0 E₀) j (encode_block b)) n
       in
-      let a : s.at ≡ s.head + length (encode_block b) = omega (arith, v.end, ap length p, length-append E₀ (encode_block b)) in
-      let g = grow (sets out₀ 0 E₀) w.depth w.marker more s w.map w.fields w.spans w.count a out o in
+      let a : s.at ≡ last.head + length (encode_block b) = omega (arith, v.end, ap length p, length-append E₀ (encode_block b)) in
+      let g = grow (sets out₀ 0 E₀) w.depth w.marker more s last w.map w.fields w.spans w.count a out o in
       let r : bs ≡ b' ∷ w.before = same bs (b' ∷ w.before) (sym f ∙ ap (continued more) w.is) in
       let m = length-append w.spans (plain_space ∷ more) in
       record {
@@ -155,8 +148,7 @@ module _ (md work out₀ out : List ℕ) (q : Reader) (s : State) (v : Holds md 
             g.1 ∙ sym (ap (λ (l : List Block). length (encode_blocks (reverse l))) r ∙ ap length (blocks_last b' w.before) ∙ length-append E₀ (encode_block b')
             ∙ ap (λ (j : ℕ). j + length (encode_block b')) (sym (zero-add (length E₀)) ∙ n));
         last =
-            subst (λ (t : Bool). LastIs t bs (continued_after s more)) (sym i)
-            (record {
+            record {
               depth = w.depth;
               marker = w.marker;
               spans = w.spans ++ (plain_space ∷ more);
@@ -166,7 +158,7 @@ module _ (md work out₀ out : List ℕ) (q : Reader) (s : State) (v : Holds md 
               map = w.map;
               fields = w.fields;
               count = omega (arith, w.count);
-            });
+            };
         paragraph = v.paragraph;
       }
     where
@@ -174,20 +166,20 @@ module _ (md work out₀ out : List ℕ) (q : Reader) (s : State) (v : Holds md 
       same xs ys h = cc
 
   -- ---- the paragraph ends
-  pub holds_none : s.from ≡ s.to → Holds md work out₀ out (reader (flush q) []) s
+  pub holds_none : s.text.part.start ≡ s.text.part.end → Holds md work out₀ out (reader (flush q) []) s
   unfolding flush
   holds_none e =
-      let p = text_none md work s.copied s.from s.to e in
+      let p = text_none md work s.text.copied s.text.part.start s.text.part.end e in
       let z : q.paragraph ≡ [] = v.paragraph ∙ p in
       rw z (record { stored = v.stored; end = v.end; last = v.last; paragraph = sym p })
 
-  pub holds_some : (out₁ : List ℕ) → Safe md work s → (s.from ≡ s.to → ⊥)
-      → out₁ ≡ sets out s.at (encode_block (Paragraph (spans (chars (text_of md work s.copied s.from s.to)))))
-      → Holds md work out₀ out₁ (reader (flush q) []) (closed (plain_after s (Paragraph (spans (chars (text_of md work s.copied s.from s.to))))))
+  pub holds_some : (out₁ : List ℕ) → Safe md work s → (s.text.part.start ≡ s.text.part.end → ⊥)
+      → out₁ ≡ sets out s.at (encode_block (Paragraph (spans (chars (text_of md work s.text.copied s.text.part.start s.text.part.end)))))
+      → Holds md work out₀ out₁ (reader (flush q) []) (closed (plain_after s (Paragraph (spans (chars (text_of md work s.text.copied s.text.part.start s.text.part.end))))))
   unfolding flush
   holds_some out₁ u n e =
-      let T = text_of md work s.copied s.from s.to in
-      let l = text_length md work s.copied s.from s.to (safe_inside md work s u) in
+      let T = text_of md work s.text.copied s.text.part.start s.text.part.end in
+      let l = text_length md work s.text.copied s.text.part.start s.text.part.end (safe_inside md work s u) in
       let z : is_empty q.paragraph ≡ false = ap is_empty v.paragraph ∙ empty_chars T ∙ not_empty T (omega (arith, u.order)) in
       rw (z, v.paragraph)
       (record {
@@ -200,20 +192,20 @@ module _ (md work out₀ out : List ℕ) (q : Reader) (s : State) (v : Holds md 
 -- ---- steps
 pub moved_safe : (md work work₁ : List ℕ) (s : State) → Safe md work s → length work₁ ≡ length work → Safe md work₁ s
 moved_safe md work work₁ s u e =
-    record { small = u.small; room = omega (arith, u.room); order = u.order; place = u.place; head = u.head; fields = u.fields; count = u.count; map = u.map }
+    record { small = u.small; room = omega (arith, u.room); order = u.order; place = u.place; last = u.last }
 
 module _ (md work out : List ℕ) (s : State) (u : Safe md work s) where
-  pub flush_none : s.from ≡ s.to → Steps md work work out out s s 393221 0 ends
+  pub flush_none : s.text.part.start ≡ s.text.part.end → Steps md work work out out s s 393221 0 ends
   flush_none e =
       record { holds = λ out₀ q v. holds_none md work out₀ out q s v e; safe = u; grows = omega arith; short = omega arith }
 
-  pub flush_some : (out₁ : List ℕ) (p : State) → (s.from ≡ s.to → ⊥)
-      → p ≡ plain_after s (Paragraph (spans (chars (text_of md work s.copied s.from s.to))))
-      → out₁ ≡ sets out s.at (encode_block (Paragraph (spans (chars (text_of md work s.copied s.from s.to)))))
+  pub flush_some : (out₁ : List ℕ) (p : State) → (s.text.part.start ≡ s.text.part.end → ⊥)
+      → p ≡ plain_after s (Paragraph (spans (chars (text_of md work s.text.copied s.text.part.start s.text.part.end))))
+      → out₁ ≡ sets out s.at (encode_block (Paragraph (spans (chars (text_of md work s.text.copied s.text.part.start s.text.part.end)))))
       → Steps md work work out out₁ s (closed p) 393221 0 ends
   flush_some out₁ p n e f =
-      let T = text_of md work s.copied s.from s.to in
-      let l = text_length md work s.copied s.from s.to (safe_inside md work s u) in
+      let T = text_of md work s.text.copied s.text.part.start s.text.part.end in
+      let l = text_length md work s.text.copied s.text.part.start s.text.part.end (safe_inside md work s u) in
       let b = block_small (Paragraph []).kind T in
       let k = safe_long md work s u in
       let m = u.small in
@@ -226,16 +218,13 @@ module _ (md work out : List ℕ) (s : State) (u : Safe md work s) where
               room = u.room;
               order = omega arith;
               place = omega arith;
-              head = omega (arith, u.head);
-              fields = omega (arith, u.fields);
-              count = omega (arith, u.count);
-              map = u.map;
+              last = tt;
             };
         grows = omega arith;
         short = omega arith;
       })
 
-  module _ (long cost : ℕ) (h : s.to - s.from ≤ long) where
+  module _ (long cost : ℕ) (h : s.text.part.end - s.text.part.start ≤ long) where
     pub plain_step : (b : Block) (out₁ : List ℕ) (r : State) → ((more : List Span) (bs : List Block) → continued more (b ∷ bs) ≡ none)
         → r ≡ plain_after s b → out₁ ≡ sets out s.at (encode_block b) → length (encode_block b) ≤ cost
         → Steps md work work out out₁ s r cost long (λ q. reader (b ∷ q.blocks) q.paragraph)
@@ -249,10 +238,7 @@ module _ (md work out : List ℕ) (s : State) (u : Safe md work s) where
                 room = u.room;
                 order = u.order;
                 place = u.place;
-                head = omega (arith, u.head);
-                fields = omega (arith, u.fields);
-                count = omega (arith, u.count);
-                map = u.map;
+                last = tt;
               };
           grows = omega arith;
           short = h;
@@ -275,10 +261,7 @@ module _ (md work out : List ℕ) (s : State) (u : Safe md work s) where
                 room = u.room;
                 order = u.order;
                 place = u.place;
-                head = omega arith;
-                fields = omega arith;
-                count = omega (arith, spans_length ss);
-                map = bits_low depth mk;
+                last = record { head = omega arith; fields = omega arith; count = omega (arith, spans_length ss); map = bits_low depth mk };
               };
           grows = omega arith;
           short = h;
@@ -328,12 +311,12 @@ given_small md work s copied from to text g t =
     let n = text_length md work copied from to (given_inside md work s copied from to g) in
     (omega (arith, ap length t, g.bound, g.safe.small), ap length t ∙ n)
 
-pub safe_small : (md work : List ℕ) (s : State) (text : List ℕ) → Safe md work s → text ≡ text_of md work s.copied s.from s.to → length text ≤ 65536
+pub safe_small : (md work : List ℕ) (s : State) (text : List ℕ) → Safe md work s → text ≡ text_of md work s.text.copied s.text.part.start s.text.part.end → length text ≤ 65536
 safe_small md work s text u t =
-    let n = text_length md work s.copied s.from s.to (safe_inside md work s u) in
+    let n = text_length md work s.text.copied s.text.part.start s.text.part.end (safe_inside md work s u) in
     omega (arith, ap length t, safe_long md work s u, u.small)
 
-pub flush_text : (md work out out₁ text : List ℕ) (s p : State) → Safe md work s → text ≡ text_of md work s.copied s.from s.to → (s.from ≡ s.to → ⊥)
+pub flush_text : (md work out out₁ text : List ℕ) (s p : State) → Safe md work s → text ≡ text_of md work s.text.copied s.text.part.start s.text.part.end → (s.text.part.start ≡ s.text.part.end → ⊥)
     → p ≡ plain_after s (Paragraph (spans (chars text))) → out₁ ≡ sets out s.at (encode_block (Paragraph (spans (chars text))))
     → Steps md work work out out₁ s (closed p) 393221 0 ends
 flush_text md work out out₁ text s p u t n e f =

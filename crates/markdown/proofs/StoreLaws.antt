@@ -26,6 +26,8 @@ use Rattle.spans.specs.Line.{line_spans}
 use Rattle.spans.proofs.LineLaws.{line_is}
 use Rattle.spans.specs.declared.Written.{Written}
 use Rattle.markdown.specs.State.{counted, SpansPut, plain_after, item_after, span_start, continued_after, continued_out, space_bytes}
+use Rattle.std.specs.Prelude.{Some, None}
+use Rattle.markdown.specs.declared.writer.OpenItem.{OpenItem}
 use Rattle.markdown.specs.declared.writer.State.{State}
 
 -- ---- the spans of a block
@@ -105,7 +107,7 @@ pub at_block : (b : Block) (at fields next : ℕ) → at + 1 + length (encode_ki
 at_block b at fields next e f = omega (arith, block_length b)
 
 pub plain_state : (s : State) (b : Block) (n : ℕ) → n ≡ s.at + length (encode_block b)
-    → ◌≡◌ {A = State} (record { at = n; item = false; head = s.head; map = s.map; fields = s.fields; count = s.count; copied = s.copied; from = s.from; to = s.to }) (plain_after s b)
+    → ◌≡◌ {A = State} (record { at = n; item = None; text = s.text }) (plain_after s b)
 plain_state s b n e = rw e
 
 -- ---- an item
@@ -201,25 +203,25 @@ bits_low (suc d) m = omega arith
 
 pub item_state : (s : State) (depth n m f k : ℕ) (mk : List ℕ) (ss : List Span) → n ≡ s.at + length (encode_block (Item depth mk ss))
     → m ≡ kind_bits (item depth mk) → f ≡ s.at + 1 + length (encode_kind (item depth mk)) → k ≡ length ss
-    → ◌≡◌ {A = State} (record { at = n; item = true; head = s.at; map = m; fields = f; count = k; copied = s.copied; from = s.from; to = s.to })
-    (item_after s depth mk ss)
+    → ◌≡◌ {A = State} (record { at = n; item = Some (record { head = s.at; map = m; fields = f; count = k }); text = s.text }) (item_after s depth mk ss)
 item_state s depth n m f k mk ss e g h i = rw (e, g, h, i)
 
 -- an item that goes on
 module _
     (s : State)
+    (last : OpenItem)
     (text out o₁ o₂ o₃ o₄ : List ℕ)
     (start : ℕ)
     (w : Written)
-    (e : start ≡ span_start s)
+    (e : start ≡ span_start s.at last)
     (low : start ≤ 549755813888)
     (l : length text ≤ 1048576)
     (next : w.next ≡ start + 6 + length (encode_spans (line_spans text (start + 6))))
     (count : w.count ≡ length (line_spans text (start + 6)))
     (f : o₁ ≡ sets out start space_bytes)
     (g : o₂ ≡ sets o₁ (start + 6) (encode_spans (line_spans text (start + 6))))
-    (h : o₃ ≡ sets o₂ s.fields (le32 (s.count + 1 + w.count)))
-    (i : o₄ ≡ sets o₃ s.head ((s.map + 8) ∷ []))
+    (h : o₃ ≡ sets o₂ last.fields (le32 (last.count + 1 + w.count)))
+    (i : o₄ ≡ sets o₃ last.head ((last.map + 8) ∷ []))
   where
     these : line_spans text (start + 6) ≡ spans (chars text)
     these = line_is text (start + 6) l (omega arith)
@@ -228,22 +230,22 @@ module _
     many = count ∙ ap length these
 
     pub continue_state : ◌≡◌ {A = State}
-        (record { at = w.next; item = s.item; head = s.head; map = s.map; fields = s.fields; count = s.count + 1 + w.count; copied = s.copied; from = s.from; to = s.to })
-        (continued_after s (spans (chars text)))
+        (record { at = w.next; item = Some (record { head = last.head; map = last.map; fields = last.fields; count = last.count + 1 + w.count }); text = s.text })
+        (continued_after s last (spans (chars text)))
     continue_state =
-        let p : w.next ≡ span_start s + 6 + length (encode_spans (spans (chars text))) = next ∙ rw (these, e) in
+        let p : w.next ≡ span_start s.at last + 6 + length (encode_spans (spans (chars text))) = next ∙ rw (these, e) in
         rw (p, many)
 
-    pub continue_out : o₄ ≡ continued_out s (spans (chars text)) out
+    pub continue_out : o₄ ≡ continued_out s last (spans (chars text)) out
     unfolding encode_span size utf8
     continue_out =
         let p : o₂ ≡ sets out start (space_bytes ++ encode_spans (spans (chars text))) =
         g ∙ rw (these, f) (sym (sets_append out start space_bytes (encode_spans (spans (chars text)))))
         in
-        let q : o₃ ≡ sets (sets out (span_start s) (space_bytes ++ encode_spans (spans (chars text)))) s.fields (le32 (s.count + 1 + length (spans (chars text)))) =
+        let q : o₃ ≡ sets (sets out (span_start s.at last) (space_bytes ++ encode_spans (spans (chars text)))) last.fields (le32 (last.count + 1 + length (spans (chars text)))) =
         h ∙ rw (many, p, e)
         in
-        i ∙ ap (λ (x : List ℕ). sets x s.head ((s.map + 8) ∷ [])) q
+        i ∙ ap (λ (x : List ℕ). sets x last.head ((last.map + 8) ∷ [])) q
 
-pub start_low : (s : State) → s.fields ≤ s.at → span_start s ≤ s.at + 4
-start_low s f = on (λ (n : ℕ). n ≤ s.at + 4) (eqb s.count 0) (λ _. omega arith) (λ _. omega arith)
+pub start_low : (at : ℕ) (i : OpenItem) → i.fields ≤ at → span_start at i ≤ at + 4
+start_low at i f = on (λ (n : ℕ). n ≤ at + 4) (eqb i.count 0) (λ _. omega arith) (λ _. omega arith)

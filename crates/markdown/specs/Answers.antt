@@ -1,21 +1,21 @@
 -- Document 01's numbers and values for what `blocks` answers.
 -- Assumes nothing.
-use Rattle.std.specs.Prelude.{ℕ}
-use Rattle.markdown.specs.declared.Answer.{Answer}
-use Rattle.markdown.specs.declared.Answer.TheVariants.{Length, NotUtf8, SmallWork, TooLong, SmallResult}
+use Rattle.std.specs.Prelude.{ℕ, Result, Ok, Err}
+use Rattle.markdown.specs.declared.BlocksError.{BlocksError}
+use Rattle.markdown.specs.declared.BlocksError.TheVariants.{NotUtf8, SmallWork, TooLong, SmallResult}
+
+abbrev pub error_number : BlocksError → ℕ
+error_number NotUtf8 = 1
+error_number SmallWork = 2
+error_number TooLong = 5
+error_number SmallResult = 6
 
 -- the number: 0 for success, and that of each refusal
-abbrev pub answer_number : Answer → ℕ
-answer_number (Length n) = 0
-answer_number NotUtf8 = 1
-answer_number SmallWork = 2
-answer_number TooLong = 5
-answer_number SmallResult = 6
+abbrev pub answer_number : Result ℕ BlocksError → ℕ
+answer_number (Ok n) = 0
+answer_number (Err e) = error_number e
 
 -- the length: that of the records, and 0 for a refusal
-abbrev pub answer_length : Answer → ℕ
-answer_length (Length n) = n
-answer_length NotUtf8 = 0
-answer_length SmallWork = 0
-answer_length TooLong = 0
-answer_length SmallResult = 0
+abbrev pub answer_length : Result ℕ BlocksError → ℕ
+answer_length (Ok n) = n
+answer_length (Err e) = 0

@@ -1,13 +1,16 @@
 -- A row of a table made in one pass: ` | `, and any other `|`, becomes ` · `; and what that means in a buffer.
 -- Assumes nothing.
 use Rattle.std.specs.Prelude.{ℕ, zero, suc, ◌+◌, ◌*◌, ◌-◌, ◌≤◌, Bool, List, [], ◌∷◌, ◌++◌, ◌≡◌, eqb, length, if◌then◌else◌}
+use Rattle.std.specs.Prelude.{Some, None}
+use Rattle.std.specs.Prelude as code
 use Rattle.text.specs.Words.{starts}
 use Rattle.text.specs.Utf8.{chars}
 use Rattle.text.specs.Trim.{trim}
 use Rattle.markdown.specs.Blocks.{row}
 use Rattle.text.specs.Part.{between}
-use Rattle.markdown.specs.Parts.{text_of}
-use Rattle.markdown.specs.declared.shape.Range.{Range}
+use Rattle.markdown.specs.Parts.{size, text_at}
+use Rattle.text.specs.declared.Part.{Part}
+use Rattle.markdown.specs.declared.lines.Text.{Text}
 
 -- the first n characters belong to the ` | ` before them
 unfoldable pub cells : List ℕ → ℕ → List ℕ → List ℕ
@@ -21,9 +24,9 @@ cells dot zero (c ∷ s) =
     else if eqb c 124 then barred
     else kept
 
--- how long the ` | `, or the other `|`, is that a text starts with
-abbrev pub bar_size : List ℕ → ℕ
-bar_size s = if starts " | " s then 3 else if starts "|" s then 1 else 0
+-- how long the ` | `, or the other `|`, is that a text starts with, if it starts with one
+abbrev pub bar_size : List ℕ → code.Option ℕ
+bar_size s = if starts " | " s then Some 3 else if starts "|" s then Some 1 else None
 
 -- the bytes of ` · `
 abbrev pub dot_bytes : List ℕ
@@ -42,8 +45,8 @@ pub record RowIs (work₀ work : List ℕ) (from to at r : ℕ) : Type 0 where
   pub high : r ≤ at + 4 * (to - from)
 
 -- the row that a part of the Markdown, or of the work buffer, is, made in the work buffer
-pub record RowMade (markdown work₀ work : List ℕ) (copied : Bool) (from to : ℕ) (r : Range) : Type 0 where
-  pub text : chars (between work r.from r.to) ≡ row (chars (text_of markdown work₀ copied from to))
-  pub order : r.from ≤ r.to
-  pub long : r.to ≤ r.from + 4 * (to - from)
-  pub bound : r.to ≤ length work
+pub record RowMade (markdown work₀ work : List ℕ) (t : Text) (r : Part) : Type 0 where
+  pub text : chars (between work r.start r.end) ≡ row (chars (text_at markdown work₀ t))
+  pub order : r.start ≤ r.end
+  pub long : r.end ≤ r.start + 4 * size t
+  pub bound : r.end ≤ length work

@@ -8,8 +8,10 @@ ghost use Rattle.text.specs.Outcome.{number, returned, result_after, work_kept};
 ghost use Rattle.records.specs.Format.{encode_blocks};
 ghost use Rattle.markdown.specs.Blocks.{blocks};
 ghost use Rattle.markdown.specs.Calls.{blocks_call};
-ghost use Rattle.markdown.specs.Answers.{answer_number, answer_length};
+ghost use Rattle.markdown.specs.Answers.{error_number, answer_number, answer_length};
 
+mod classes;
+mod digits;
 mod lines;
 mod reader;
 mod rows;
@@ -20,15 +22,27 @@ use crate::lines::next_line;
 use crate::reader::{flush, read_line};
 use crate::writer::State;
 
-// What `blocks` answers.
-#[derive(Clone, Copy)]
-pub enum Answer {
-    // The length of the records.
-    Length(usize),
+// Why `blocks` has no records to give: the Markdown is no UTF-8, or too long; the work buffer is too small, or the result.
+#[derive(Clone, Copy, PartialEq, Eq, Debug)]
+pub enum BlocksError {
     NotUtf8,
     SmallWork,
     TooLong,
     SmallResult,
+}
+
+// The number of a refusal, for C.
+impl From<BlocksError> for u32 {
+    ghost from_gives = { λ e n. n ≡ error_number e };
+
+    fn from(error: BlocksError) -> u32 {
+        match error {
+            BlocksError::NotUtf8 => 1,
+            BlocksError::SmallWork => 2,
+            BlocksError::TooLong => 5,
+            BlocksError::SmallResult => 6,
+        }
+    }
 }
 
 // Stores the records of the Markdown's blocks as far as there is room, and answers how long they are.
@@ -39,13 +53,14 @@ fn read(markdown: &[u8], work: &mut [u8], out: &mut [u8]) -> usize
 {
     let mut s = State::new();
     let mut i = 0;
+    // No iterator over the lines: each is lent the work buffer, which what is made of it writes too.
     while i < markdown.len() {
-        if (markdown[i] == b'\n') & (s.from == s.to) {
+        if (markdown[i] == b'\n') & s.text.is_empty() {
             i += 1;
             continue;
         }
         let line = next_line(markdown, i, work);
-        s = read_line(markdown, work, out, s, line);
+        s = read_line(markdown, work, out, s, line.text);
         i = line.next;
     }
     let end = flush(markdown, work, out, s);
@@ -53,7 +68,7 @@ fn read(markdown: &[u8], work: &mut [u8], out: &mut [u8]) -> usize
 }
 
 // The Markdown's blocks as records, in the front of the result.
-pub fn blocks(markdown: &[u8], work: &mut [u8], res: &mut [u8]) -> Answer
+pub fn blocks(markdown: &[u8], work: &mut [u8], res: &mut [u8]) -> Result<usize, BlocksError>
     ensures { (answer_number result ≡ number (blocks_call markdown.now (length work.old) (length res.old)))
         × ((answer_length result ≡ returned (blocks_call markdown.now (length work.old) (length res.old)))
         × ((res.new ≡ result_after (blocks_call markdown.now (length work.old) (length res.old)) res.old)
@@ -62,18 +77,18 @@ pub fn blocks(markdown: &[u8], work: &mut [u8], res: &mut [u8]) -> Answer
 {
     let n = markdown.len();
     if 65536 < n {
-        return Answer::TooLong;
+        return Err(BlocksError::TooLong);
     }
     if !text::is_utf8(markdown) {
-        return Answer::NotUtf8;
+        return Err(BlocksError::NotUtf8);
     }
     if work.len() < 6 * n {
-        return Answer::SmallWork;
+        return Err(BlocksError::SmallWork);
     }
     let end = read(markdown, work, res);
     if res.len() < end {
         records::writer::clear(res);
-        return Answer::SmallResult;
+        return Err(BlocksError::SmallResult);
     }
-    Answer::Length(end)
+    Ok(end)
 }

@@ -1,4 +1,5 @@
-// What each line does to the reader's state.
+// What each line does to the reader's state. The Markdown, the two buffers and the state stay parameters: a struct of them would not be
+// plainer, since each contract would have to say besides that the struct holds the same buffers afterwards.
 ghost use Rattle.std.specs.Prelude.{◌+◌, ◌*◌, ◌-◌, ◌≤◌, ◌<◌, ◌≡◌, ◌&&◌, List, ℕ, eqb, length};
 ghost use Rattle.text.specs.Utf8.{chars, Scalars};
 ghost use Rattle.records.specs.Blocks.{Paragraph, Item};
@@ -6,29 +7,29 @@ ghost use Rattle.spans.specs.Spans.{spans};
 ghost use Rattle.markdown.specs.Blocks.{added, row, heading, paragraph, read_text, read_line};
 ghost use Rattle.markdown.specs.Cells.{RowMade};
 ghost use Rattle.text.specs.Part.{between};
-ghost use Rattle.markdown.specs.Parts.{text_of};
-ghost use Rattle.markdown.specs.Shape.{mark, MarkerAt};
-ghost use Rattle.markdown.specs.State.{Safe, Given, LineGiven, Owned, Steps, grown, ends, starts_with_text};
+ghost use Rattle.markdown.specs.Parts.{size, text_at};
+ghost use Rattle.markdown.specs.Shape.{part_text, mark, MarkerAt};
+ghost use Rattle.markdown.specs.State.{Safe, Given, LineGiven, Owned, Steps, continues, grown, ends, starts_with_text};
 
-use crate::lines::{Line, put_text, text_of};
+use crate::digits::Digits;
+use crate::lines::{Text, put_text, text_of};
 use crate::rows::put_row;
-use crate::shape::{Marker, Range, Title, heading, is_rule, list_marker, trimmed};
-use crate::writer::{State, continue_item, put_heading, put_item, put_paragraph};
+use crate::shape::{Marker, heading, is_rule, list_marker, trimmed};
+use crate::writer::{OpenItem, State, continue_item, put_heading, put_item, put_paragraph};
+use text::Part;
 
 // The open paragraph becomes a block. Where none is open the state is made anew: a copy of the whole would copy the gaps between its fields, line by line.
 pub(crate) fn flush<'a>(markdown: &'a [u8], work: &'a [u8], out: &mut [u8], s: State) -> State
     requires { Safe markdown.now work.now s × (s.at ≤ 300000000000) }
     ensures { Steps markdown.now work.now work.now out.old out.new s result 393221 0 ends }
 {
-    if s.from == s.to {
+    if s.text.is_empty() {
         return State { at: s.at, ..s };
     }
-    let text = text_of(markdown, work, s.copied, s.from, s.to);
+    let text = text_of(markdown, work, s.text);
     let p = put_paragraph(text, out, s);
     State {
-        copied: false,
-        from: 0,
-        to: 0,
+        text: Text::lent(0, 0),
         ..p
     }
 }
@@ -40,71 +41,48 @@ fn item_line<'a>(
     out: &mut [u8],
     s: State,
     line: &'a [u8],
-    depth: usize,
-    at: usize,
-    stop: usize,
-    from: usize,
-    to: usize,
+    item: Marker,
 ) -> State
-    requires { (Safe markdown.now work.now s × (s.at ≤ 300000000000)) × ((length line.now ≤ 65536) × MarkerAt line.now depth at stop from to) }
+    requires { (Safe markdown.now work.now s × (s.at ≤ 300000000000)) × ((length line.now ≤ 65536) × MarkerAt line.now item) }
     ensures { Steps markdown.now work.now work.now out.old out.new s result 800000 0
-        (added (Item depth (mark (between line.now at stop)) (spans (chars (between line.now from to))))) }
+        (added (Item item.depth (mark (part_text line.now item.digits)) (spans (chars (part_text line.now item.text))))) }
 {
     let p = flush(markdown, work, out, s);
-    put_item(&line[at..stop], &line[from..to], out, p, depth)
+    let digits = Digits {
+        bytes: item.digits.of(line),
+    };
+    put_item(digits, item.text.of(line), out, p, item.depth)
 }
 
 // A new paragraph of one line: a part of the Markdown itself, or a copy of the line in the work buffer.
-fn open_paragraph(
-    markdown: &[u8],
-    work: &mut [u8],
-    s: State,
-    copied: bool,
-    from: usize,
-    to: usize,
-) -> State
-    requires { Given markdown.now work.old s from to }
-    ensures { (out : List ℕ) → Steps markdown.now work.old work.new out out s result 0 (to - from)
-        (starts_with_text (chars (text_of markdown.now work.old copied from to))) }
+fn open_paragraph(markdown: &[u8], work: &mut [u8], s: State, text: Text) -> State
+    requires { Given markdown.now work.old s text.part.start text.part.end }
+    ensures { (out : List ℕ) → Steps markdown.now work.old work.new out out s result 0 (size text)
+        (starts_with_text (chars (text_at markdown.now work.old text))) }
 {
-    if copied {
+    if text.copied {
         let n = markdown.len();
-        put_text(markdown, work, true, from, to, n);
+        put_text(markdown, work, text, n);
         return State {
-            copied: true,
-            from: n,
-            to: n + (to - from),
+            text: Text::copied(n, n + text.len()),
             ..s
         };
     }
-    State {
-        copied: false,
-        from,
-        to,
-        ..s
-    }
+    State { text, ..s }
 }
 
 // A line that starts with `#`: a heading, or the first line of a paragraph.
-fn hash_line(
-    markdown: &[u8],
-    work: &mut [u8],
-    out: &mut [u8],
-    s: State,
-    copied: bool,
-    from: usize,
-    to: usize,
-) -> State
-    requires { Given markdown.now work.old s from to × (s.at ≤ 274877906944) }
-    ensures { Steps markdown.now work.old work.new out.old out.new s result 800000 (to - from)
-        (heading (chars (text_of markdown.now work.old copied from to))) }
+fn hash_line(markdown: &[u8], work: &mut [u8], out: &mut [u8], s: State, text: Text) -> State
+    requires { Given markdown.now work.old s text.part.start text.part.end × (s.at ≤ 274877906944) }
+    ensures { Steps markdown.now work.old work.new out.old out.new s result 800000 (size text)
+        (heading (chars (text_at markdown.now work.old text))) }
 {
     let p = flush(markdown, work, out, s);
-    let line = text_of(markdown, work, copied, from, to);
-    match heading(line) {
-        Title::Named(level, a, b) => put_heading(&line[a..b], out, p, level),
-        Title::Plain => open_paragraph(markdown, work, p, copied, from, to),
-    }
+    let line = text_of(markdown, work, text);
+    let Some(title) = heading(line) else {
+        return open_paragraph(markdown, work, p, text);
+    };
+    put_heading(title.text.of(line), out, p, title.level)
 }
 
 // The open paragraph is copied to the second part of the work buffer, where lines can join it.
@@ -112,97 +90,77 @@ fn own_paragraph(markdown: &[u8], work: &mut [u8], s: State)
     requires { Safe markdown.now work.old s }
     ensures { Owned markdown.now work.old work.new s }
 {
-    if s.copied {
+    if s.text.copied {
         return;
     }
-    let n = markdown.len();
-    put_text(markdown, work, false, s.from, s.to, n);
+    put_text(markdown, work, s.text, markdown.len());
 }
 
 // A line joins the open paragraph.
-fn join_paragraph(
-    markdown: &[u8],
-    work: &mut [u8],
-    s: State,
-    copied: bool,
-    from: usize,
-    to: usize,
-) -> State
-    requires { Given markdown.now work.old s from to × ((s.from < s.to) × ((s.to - s.from) + 1 + (to - from) ≤ length markdown.now)) }
-    ensures { (out : List ℕ) → Steps markdown.now work.old work.new out out s result 0 ((s.to - s.from) + 1 + (to - from))
-        (paragraph (chars (text_of markdown.now work.old copied from to))) }
+fn join_paragraph(markdown: &[u8], work: &mut [u8], s: State, text: Text) -> State
+    requires { Given markdown.now work.old s text.part.start text.part.end × ((s.text.part.start < s.text.part.end) × (size s.text + 1 + size text ≤ length markdown.now)) }
+    ensures { (out : List ℕ) → Steps markdown.now work.old work.new out out s result 0 (size s.text + 1 + size text)
+        (paragraph (chars (text_at markdown.now work.old text))) }
 {
     let n = markdown.len();
-    let end = n + (s.to - s.from);
+    let end = n + s.text.len();
     own_paragraph(markdown, work, s);
     records::writer::put(work, end, b' ');
-    put_text(markdown, work, copied, from, to, end + 1);
+    put_text(markdown, work, text, end + 1);
     State {
-        copied: true,
-        from: n,
-        to: end + 1 + (to - from),
+        text: Text::copied(n, end + 1 + text.len()),
         ..s
     }
 }
 
 // A line of the open paragraph, or of a new one.
-fn add_text(
-    markdown: &[u8],
-    work: &mut [u8],
-    s: State,
-    copied: bool,
-    from: usize,
-    to: usize,
-) -> State
-    requires { Given markdown.now work.old s from to × (grown s + (to - from) ≤ length markdown.now) }
-    ensures { (out : List ℕ) → Steps markdown.now work.old work.new out out s result 0 (grown s + (to - from))
-        (paragraph (chars (text_of markdown.now work.old copied from to))) }
+fn add_text(markdown: &[u8], work: &mut [u8], s: State, text: Text) -> State
+    requires { Given markdown.now work.old s text.part.start text.part.end × (grown s + size text ≤ length markdown.now) }
+    ensures { (out : List ℕ) → Steps markdown.now work.old work.new out out s result 0 (grown s + size text)
+        (paragraph (chars (text_at markdown.now work.old text))) }
 {
-    if s.from == s.to {
-        return open_paragraph(markdown, work, s, copied, from, to);
+    if s.text.is_empty() {
+        return open_paragraph(markdown, work, s, text);
     }
-    join_paragraph(markdown, work, s, copied, from, to)
+    join_paragraph(markdown, work, s, text)
 }
 
 // The row of a table, made in the third part of the work buffer: where it starts and ends there.
-fn make_row(markdown: &[u8], work: &mut [u8], copied: bool, from: usize, to: usize) -> Range
-    requires { ((from ≤ to) × (to ≤ length markdown.now)) × ((6 * length markdown.now ≤ length work.old)
-        × Scalars (chars (text_of markdown.now work.old copied from to))) }
-    ensures { RowMade markdown.now work.old work.new copied from to result }
+fn make_row(markdown: &[u8], work: &mut [u8], text: Text) -> Part
+    requires { ((text.part.start ≤ text.part.end) × (text.part.end ≤ length markdown.now)) × ((6 * length markdown.now ≤ length work.old)
+        × Scalars (chars (text_at markdown.now work.old text))) }
+    ensures { RowMade markdown.now work.old work.new text result }
 {
     let n = markdown.len();
-    put_text(markdown, work, copied, from, to, n);
-    let at = n + n;
-    let end = put_row(work, n, n + (to - from), at);
-    trimmed(work, at, end)
+    put_text(markdown, work, text, n);
+    let start = n + n;
+    let whole = Part {
+        start: n,
+        end: n + text.len(),
+    };
+    let end = put_row(work, whole, start);
+    trimmed(work, Part { start, end })
 }
 
 // A row of a table.
-fn row_line(
-    markdown: &[u8],
-    work: &mut [u8],
-    out: &mut [u8],
-    s: State,
-    copied: bool,
-    from: usize,
-    to: usize,
-) -> State
-    requires { Given markdown.now work.old s from to × Scalars (chars (text_of markdown.now work.old copied from to)) }
+fn row_line(markdown: &[u8], work: &mut [u8], out: &mut [u8], s: State, text: Text) -> State
+    requires { Given markdown.now work.old s text.part.start text.part.end × Scalars (chars (text_at markdown.now work.old text)) }
     ensures { Steps markdown.now work.old work.new out.old out.new s result 2000000 0
-        (added (Paragraph (spans (row (chars (text_of markdown.now work.old copied from to)))))) }
+        (added (Paragraph (spans (row (chars (text_at markdown.now work.old text)))))) }
 {
     let p = flush(markdown, work, out, s);
-    let t = make_row(markdown, work, copied, from, to);
-    let a = t.from;
-    let b = t.to;
-    put_paragraph(&work[a..b], out, p)
+    let row = make_row(markdown, work, text);
+    put_paragraph(row.of(work), out, p)
 }
 
-// Whether a line continues the last item.
-fn goes_on(s: State, indented: bool) -> bool
-    ensures { result ≡ indented && (s.item && eqb s.from s.to) }
+// The last item, if a line continues it: an indented one, where no paragraph is open.
+fn continued(s: State, indented: bool) -> Option<OpenItem>
+    ensures { result ≡ continues s indented }
 {
-    indented & (s.item & (s.from == s.to))
+    if indented & s.text.is_empty() {
+        return s.item;
+    }
+    None
 }
 
 // A line that neither starts with `#` nor has a list marker.
@@ -211,54 +169,57 @@ fn text_line(
     work: &mut [u8],
     out: &mut [u8],
     s: State,
-    copied: bool,
-    from: usize,
-    to: usize,
+    text: Text,
     indented: bool,
 ) -> State
-    requires { Given markdown.now work.old s from to × ((from < to) × ((grown s + (to - from) ≤ length markdown.now)
-        × Scalars (chars (text_of markdown.now work.old copied from to)))) }
-    ensures { Steps markdown.now work.old work.new out.old out.new s result 2000000 (grown s + (to - from))
-        (λ q. read_text q indented (chars (text_of markdown.now work.old copied from to))) }
+    requires { Given markdown.now work.old s text.part.start text.part.end × ((text.part.start < text.part.end) × ((grown s + size text ≤ length markdown.now)
+        × Scalars (chars (text_at markdown.now work.old text)))) }
+    ensures { Steps markdown.now work.old work.new out.old out.new s result 2000000 (grown s + size text)
+        (λ q. read_text q indented (chars (text_at markdown.now work.old text))) }
 {
-    let line = text_of(markdown, work, copied, from, to);
+    let line = text_of(markdown, work, text);
     if is_rule(line) {
         return flush(markdown, work, out, s);
     }
     if line[0] == b'|' {
-        return row_line(markdown, work, out, s, copied, from, to);
+        return row_line(markdown, work, out, s, text);
     }
-    if goes_on(s, indented) {
-        return continue_item(line, out, s);
-    }
-    add_text(markdown, work, s, copied, from, to)
+    let Some(item) = continued(s, indented) else {
+        return add_text(markdown, work, s, text);
+    };
+    continue_item(line, out, s, item)
 }
 
 // A line is read.
-pub(crate) fn read_line(md: &[u8], work: &mut [u8], out: &mut [u8], s: State, line: Line) -> State
+pub(crate) fn read_line(md: &[u8], work: &mut [u8], out: &mut [u8], s: State, line: Text) -> State
     requires { LineGiven md.now work.old s line }
-    ensures { Steps md.now work.old work.new out.old out.new s result 2000000 (grown s + (line.to - line.from))
-        (λ q. read_line q (chars (text_of md.now work.old line.copied line.from line.to))) }
+    ensures { Steps md.now work.old work.new out.old out.new s result 2000000 (grown s + size line)
+        (λ q. read_line q (chars (text_at md.now work.old line))) }
 {
-    let copied = line.copied;
-    let text = text_of(md, work, copied, line.from, line.to);
-    let t = trimmed(text, 0, text.len());
-    let a = t.from;
-    if a == t.to {
+    let text = text_of(md, work, line);
+    let whole = Part {
+        start: 0,
+        end: text.len(),
+    };
+    let words = trimmed(text, whole);
+    let a = words.start;
+    if a == words.end {
         return flush(md, work, out, s);
     }
-    let from = line.from + a;
-    let to = line.from + t.to;
+    let start = line.part.start;
+    let trimmed = Text {
+        copied: line.copied,
+        part: Part {
+            start: start + a,
+            end: start + words.end,
+        },
+    };
     if text[a] == b'#' {
-        return hash_line(md, work, out, s, copied, from, to);
+        return hash_line(md, work, out, s, trimmed);
     }
-    match list_marker(text, a) {
-        Marker::At(depth, at, stop, start, end) => {
-            item_line(md, work, out, s, text, depth, at, stop, start, end)
-        }
-        Marker::Unmarked => {
-            let indented = text[0] == b' ';
-            text_line(md, work, out, s, copied, from, to, indented)
-        }
-    }
+    let Some(item) = list_marker(text, a) else {
+        let indented = text[0] == b' ';
+        return text_line(md, work, out, s, trimmed, indented);
+    };
+    item_line(md, work, out, s, text, item)
 }

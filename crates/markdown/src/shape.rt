@@ -1,105 +1,34 @@
 // The shape of a line: a heading, an item or a rule.
 ghost use Rattle.std.specs.Prelude.{◌+◌, ◌-◌, ◌*◌, ◌<◌, ◌≤◌, ◌≡◌, false, ◌||◌, length, take, drop, eqb};
 ghost use Rattle.text.specs.Part.{Inside};
-ghost use Rattle.text.specs.Words.{all, starts, matches, take_while};
-ghost use Rattle.text.specs.Run.{RunTo};
-ghost use Rattle.markdown.specs.Shape.{Trimmed, TitleIs, MarkerIs};
+ghost use Rattle.text.specs.Words.{all, starts, matches};
+ghost use Rattle.markdown.specs.Shape.{marker, Trimmed, TitleIs, MarkerIs};
 ghost use Rattle.markdown.specs.Blocks.{is_rule};
 ghost use Rattle.text.specs.Chars.{is_digit};
 ghost use Rattle.text.specs.Utf8.{chars};
 ghost use Rattle.text.specs.Trim.{start_of};
 
-// Where a part starts and ends.
-#[derive(Clone, Copy)]
-pub struct Range {
-    pub from: usize,
-    pub to: usize,
-}
+use crate::classes::{Digit, Only, Ruled, is_mark, is_ruled};
+use text::{Part, past_blocks, run_end};
 
-// The part of s from `from` to `to` without the spaces at its ends.
-pub(crate) fn trimmed(s: &[u8], from: usize, to: usize) -> Range
-    requires { Inside s.now from to }
-    ensures { Trimmed s.now from to result }
+// The part of s without the spaces at its ends.
+pub(crate) fn trimmed(s: &[u8], part: Part) -> Part
+    requires { Inside s.now part.start part.end }
+    ensures { Trimmed s.now part.start part.end result }
 {
-    let a = from + text::start_of(&s[from..to]);
-    let b = a + text::end_of(&s[a..to]);
-    Range { from: a, to: b }
-}
-
-// How many bytes b s starts with.
-pub(crate) fn run_of(s: &[u8], b: u8) -> usize
-    ensures { result ≡ length (take_while (λ x. eqb x b) s.now) }
-{
-    let mut i = 0;
-    while i < s.len() {
-        if s[i] != b {
-            return i;
-        }
-        i += 1;
+    let start = part.start + text::start_of(part.of(s));
+    let rest = Part {
+        start,
+        end: part.end,
+    };
+    Part {
+        start,
+        end: start + text::end_of(rest.of(s)),
     }
-    i
 }
 
-// Where the digits from i on end.
-fn digits_end(s: &[u8], i: usize) -> usize
-    requires { i ≤ length s.now }
-    ensures { result ≡ i + length (take_while is_digit (drop i s.now)) }
-{
-    let mut j = i;
-    while j < s.len() {
-        if !text::is_digit(s[j]) {
-            return j;
-        }
-        j += 1;
-    }
-    j
-}
-
-// `-`, `*` or `_`.
-fn is_mark(b: u8) -> bool
-    ensures { result ≡ matches "-*_" b }
-{
-    (b == b'-') | (b == b'*') | (b == b'_')
-}
-
-// What a rule may have.
-fn is_ruled(b: u8) -> bool
-    ensures { result ≡ matches "-*_ |:" b }
-{
-    is_mark(b) | (b == b' ') | (b == b'|') | (b == b':')
-}
-
-// Whether the 32 bytes from i on are such. One test a byte and no way out of the loop, so that the compiler can take many bytes at once.
-fn is_ruled_block(line: &[u8], i: usize) -> bool
-    requires { i + 32 ≤ length line.now }
-    ensures { result ≡ all (matches "-*_ |:") (take 32 (drop i line.now)) }
-{
-    let mut ruled = true;
-    let mut k = 0;
-    while k < 32 {
-        let b = line[i + k];
-        ruled = ruled & is_ruled(b);
-        k += 1;
-    }
-    ruled
-}
-
-// Where the blocks of 32 such bytes from i on end.
-fn ruled_blocks(line: &[u8], i: usize) -> usize
-    requires { i ≤ length line.now }
-    ensures { RunTo (matches "-*_ |:") line.now i result }
-{
-    let mut j = i;
-    while 32 <= line.len() - j {
-        if !is_ruled_block(line, j) {
-            return j;
-        }
-        j += 32;
-    }
-    j
-}
-
-// Whether from i on all bytes are such. Blocks are tried only from multiples of 32 on, so that an ordinary line costs little.
+// Whether from i on all bytes are such. Blocks are tried only from multiples of 32 on, so that an ordinary line costs little:
+// an iterator's step would be one byte or one block, and not either.
 fn all_ruled(line: &[u8], i: usize) -> bool
     requires { i ≤ length line.now }
     ensures { result ≡ all (matches "-*_ |:") (drop i line.now) }
@@ -111,7 +40,7 @@ fn all_ruled(line: &[u8], i: usize) -> bool
         }
         j += 1;
         if j % 32 == 0 {
-            j = ruled_blocks(line, j);
+            j = past_blocks::<32, Ruled>(line, j, Ruled);
         }
     }
     true
@@ -124,8 +53,7 @@ pub(crate) fn is_rule(line: &[u8]) -> bool
     if line.len() < 3 {
         return false;
     }
-    let mut i = 0;
-    while i < line.len() {
+    for i in 0..line.len() {
         let b = line[i];
         if is_mark(b) {
             return all_ruled(line, i + 1);
@@ -133,41 +61,44 @@ pub(crate) fn is_rule(line: &[u8]) -> bool
         if !is_ruled(b) {
             return false;
         }
-        i += 1;
     }
     false
 }
 
-// What a trimmed line that starts with `#` is.
+// A heading: its level, and where its text stands in the line.
 #[derive(Clone, Copy)]
-pub enum Title {
-    // A heading: its level, and where its text starts and ends.
-    Named(usize, usize, usize),
-    Plain,
+pub struct Title {
+    pub level: usize,
+    pub text: Part,
 }
 
-pub(crate) fn heading(line: &[u8]) -> Title
+// What a trimmed line that starts with `#` is: a heading, or text like any other.
+pub(crate) fn heading(line: &[u8]) -> Option<Title>
     ensures { TitleIs line.now result }
 {
-    let level = run_of(line, b'#');
+    let level = run_end(line, 0, Only(b'#'));
     if 6 < level {
-        return Title::Plain;
+        return None;
     }
     if !text::starts_with(line, level, b" ") {
-        return Title::Plain;
+        return None;
     }
-    let t = trimmed(line, level, line.len());
-    if level < 3 {
-        return Title::Named(level, t.from, t.to);
-    }
-    Title::Named(3, t.from, t.to)
+    let rest = Part {
+        start: level,
+        end: line.len(),
+    };
+    Some(Title {
+        level: level.min(3),
+        text: trimmed(line, rest),
+    })
 }
 
-// An item's depth, where its digits start and end, and where its text does.
+// An item: its depth, and where its digits and its text stand in the line.
 #[derive(Clone, Copy)]
-pub enum Marker {
-    At(usize, usize, usize, usize, usize),
-    Unmarked,
+pub struct Marker {
+    pub depth: usize,
+    pub digits: Part,
+    pub text: Part,
 }
 
 // Whether a bullet stands at i.
@@ -180,32 +111,49 @@ fn is_bullet(line: &[u8], i: usize) -> bool
 }
 
 // A marker of digits, where the line's text starts.
-fn ordered_marker(line: &[u8], at: usize) -> Marker
+fn ordered_marker(line: &[u8], at: usize) -> Option<Marker>
     requires { (at ≡ start_of line.now) × (starts "- " (drop at line.now) || starts "* " (drop at line.now) || starts "+ " (drop at line.now) ≡ false) }
     ensures { MarkerIs line.now result }
 {
-    let stop = digits_end(line, at);
+    let stop = run_end(line, at, Digit);
     if stop == at {
-        return Marker::Unmarked;
+        return None;
     }
     if 9 < stop - at {
-        return Marker::Unmarked;
+        return None;
     }
     if !text::starts_with(line, stop, b". ") {
-        return Marker::Unmarked;
+        return None;
     }
-    let t = trimmed(line, stop + 2, line.len());
-    Marker::At(at / 2, at, stop, t.from, t.to)
+    Some(marker_of(line, at, stop, stop + 2))
+}
+
+// The marker whose digits stand from `at` to `stop`, with its text somewhere after `from`.
+fn marker_of(line: &[u8], at: usize, stop: usize, from: usize) -> Marker
+    requires { Inside line.now from (length line.now) }
+    ensures { (result ≡ marker at stop result.text) × Trimmed line.now from (length line.now) result.text }
+{
+    let rest = Part {
+        start: from,
+        end: line.len(),
+    };
+    Marker {
+        depth: at / 2,
+        digits: Part {
+            start: at,
+            end: stop,
+        },
+        text: trimmed(line, rest),
+    }
 }
 
 // The marker of a line whose text starts at `at`.
-pub(crate) fn list_marker(line: &[u8], at: usize) -> Marker
+pub(crate) fn list_marker(line: &[u8], at: usize) -> Option<Marker>
     requires { (at ≡ start_of line.now) × (at < length line.now) }
     ensures { MarkerIs line.now result }
 {
     if is_bullet(line, at) {
-        let t = trimmed(line, at + 2, line.len());
-        return Marker::At(at / 2, at, at, t.from, t.to);
+        return Some(marker_of(line, at, at, at + 2));
     }
     ordered_marker(line, at)
 }

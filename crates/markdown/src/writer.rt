@@ -1,30 +1,33 @@
-// The records of blocks, stored where the reader stands.
+// The records of blocks, stored where the reader stands. Each writer takes the whole result and an offset, and not what is left of it: an
+// offset may lie past its end, and the head of a block is stored after its spans.
 ghost use Rattle.std.specs.Prelude.{ℕ, ◌+◌, ◌≤◌, ◌<◌, ◌≡◌, true, List, ◌∷◌, length};
 ghost use Rattle.std.proofs.lemmas.List.Edits.{sets};
-ghost use Rattle.text.specs.Words.{all};
-ghost use Rattle.text.specs.Chars.{is_digit};
 ghost use Rattle.text.specs.Utf8.{chars, size, encode};
 ghost use Rattle.records.specs.Blocks.{Heading, Paragraph, Item, item};
 ghost use Rattle.records.specs.Format.{kind_bits, encode_block, encode_kind};
 ghost use Rattle.spans.specs.Spans.{spans};
 ghost use Rattle.markdown.specs.Shape.{mark};
-ghost use Rattle.markdown.specs.State.{fresh, SpansPut, plain_after, item_after, span_start, continued_after, space_bytes, continued_out};
+ghost use Rattle.markdown.specs.State.{fresh, SafeItem, SpansPut, plain_after, item_after, span_start, continued_after, space_bytes, continued_out};
 
+use crate::digits::Digits;
+use crate::lines::Text;
 use spans::Written;
 
-// Where the records end. Whether the last block is an item, and then its record's start and map byte, where its span count goes and how
-// many spans it has. The paragraph that is open: a part of the Markdown or of the work buffer, empty where none is open.
+// The last block, an item, which lines may continue: where its record starts, its map byte, where its span count goes, and how many spans it has.
 #[derive(Clone, Copy)]
-pub struct State {
-    pub at: usize,
-    pub item: bool,
+pub struct OpenItem {
     pub head: usize,
     pub map: u8,
     pub fields: usize,
     pub count: usize,
-    pub copied: bool,
-    pub from: usize,
-    pub to: usize,
+}
+
+// Where the records end; the last block, if it is an item; and the text of the paragraph that is open, empty where none is open.
+#[derive(Clone, Copy)]
+pub struct State {
+    pub at: usize,
+    pub item: Option<OpenItem>,
+    pub text: Text,
 }
 
 impl State {
@@ -34,14 +37,8 @@ impl State {
     {
         Self {
             at: 0,
-            item: false,
-            head: 0,
-            map: 0,
-            fields: 0,
-            count: 0,
-            copied: false,
-            from: 0,
-            to: 0,
+            item: None,
+            text: Text::lent(0, 0),
         }
     }
 }
@@ -59,7 +56,7 @@ fn put_spans(text: &[u8], out: &mut [u8], head: usize, map: u8, fields: usize) -
             count: 0,
         };
     }
-    records::writer::put_u32(out, fields, w.count);
+    records::writer::put_number::<4>(out, fields, w.count);
     records::writer::put(out, head, map + 8);
     w
 }
@@ -73,7 +70,7 @@ pub(crate) fn put_heading(text: &[u8], out: &mut [u8], s: State, level: usize) -
     let w = put_spans(text, out, s.at, 1, s.at + 2);
     State {
         at: w.next,
-        item: false,
+        item: None,
         ..s
     }
 }
@@ -86,38 +83,38 @@ pub(crate) fn put_paragraph(text: &[u8], out: &mut [u8], s: State) -> State
     let w = put_spans(text, out, s.at, 0, s.at + 1);
     State {
         at: w.next,
-        item: false,
+        item: None,
         ..s
     }
 }
 
 // A list marker: its length and its bytes. Without digits it is the bullet. Answers where it ends.
-fn put_marker(digits: &[u8], out: &mut [u8], at: usize) -> usize
-    requires { (at ≤ 549755813888) × ((length digits.now ≤ 9) × (all is_digit digits.now ≡ true)) }
-    ensures { (result ≡ at + length (size (mark digits.now) ∷ encode (mark digits.now)))
-        × (out.new ≡ sets out.old at (size (mark digits.now) ∷ encode (mark digits.now))) }
+fn put_marker(digits: Digits, out: &mut [u8], at: usize) -> usize
+    requires { at ≤ 549755813888 }
+    ensures { (result ≡ at + length (size (mark digits.entry.bytes.now) ∷ encode (mark digits.entry.bytes.now)))
+        × (out.new ≡ sets out.old at (size (mark digits.entry.bytes.now) ∷ encode (mark digits.entry.bytes.now))) }
 {
-    let n = digits.len();
+    let n = digits.bytes.len();
     if n == 0 {
         records::writer::put_bytes(out, at, b"\x03\xE2\x80\xA2");
         return at + 4;
     }
     records::writer::put(out, at, (n + 1) as u8);
-    records::writer::put_bytes(out, at + 1, digits);
+    records::writer::put_bytes(out, at + 1, digits.bytes);
     records::writer::put(out, at + 1 + n, b'.');
     at + 2 + n
 }
 
 // The fields of an item: its depth, unless it is 0, and its marker. Answers where they end.
-fn put_fields(digits: &[u8], out: &mut [u8], at: usize, depth: usize) -> usize
-    requires { (at ≤ 500000000000) × ((length digits.now ≤ 9) × (all is_digit digits.now ≡ true)) }
-    ensures { (result ≡ at + length (encode_kind (item depth (mark digits.now))))
-        × (out.new ≡ sets out.old at (encode_kind (item depth (mark digits.now)))) }
+fn put_fields(digits: Digits, out: &mut [u8], at: usize, depth: usize) -> usize
+    requires { at ≤ 500000000000 }
+    ensures { (result ≡ at + length (encode_kind (item depth (mark digits.entry.bytes.now))))
+        × (out.new ≡ sets out.old at (encode_kind (item depth (mark digits.entry.bytes.now)))) }
 {
     if depth == 0 {
         return put_marker(digits, out, at);
     }
-    records::writer::put_u16(out, at, depth);
+    records::writer::put_number::<2>(out, at, depth);
     put_marker(digits, out, at + 2)
 }
 
@@ -131,10 +128,10 @@ fn item_map(depth: usize) -> u8
     6
 }
 
-pub(crate) fn put_item(digits: &[u8], text: &[u8], out: &mut [u8], s: State, depth: usize) -> State
-    requires { (s.at ≤ 412316860416) × ((length text.now ≤ 1048576) × ((length digits.now ≤ 9) × (all is_digit digits.now ≡ true))) }
-    ensures { (result ≡ item_after s depth (mark digits.now) (spans (chars text.now)))
-        × (out.new ≡ sets out.old s.at (encode_block (Item depth (mark digits.now) (spans (chars text.now))))) }
+pub(crate) fn put_item(digits: Digits, text: &[u8], out: &mut [u8], s: State, depth: usize) -> State
+    requires { (s.at ≤ 412316860416) × (length text.now ≤ 1048576) }
+    ensures { (result ≡ item_after s depth (mark digits.entry.bytes.now) (spans (chars text.now)))
+        × (out.new ≡ sets out.old s.at (encode_block (Item depth (mark digits.entry.bytes.now) (spans (chars text.now))))) }
 {
     let at = s.at;
     let fields = put_fields(digits, out, at + 1, depth);
@@ -142,24 +139,25 @@ pub(crate) fn put_item(digits: &[u8], text: &[u8], out: &mut [u8], s: State, dep
     let w = put_spans(text, out, at, map, fields);
     State {
         at: w.next,
-        item: true,
-        head: at,
-        map,
-        fields,
-        count: w.count,
+        item: Some(OpenItem {
+            head: at,
+            map,
+            fields,
+            count: w.count,
+        }),
         ..s
     }
 }
 
-// Where the next span of the last item goes.
-fn next_span(s: State) -> usize
-    requires { s.fields ≤ 549755813888 }
-    ensures { result ≡ span_start s }
+// Where the next span of the last item goes, where the records end at `at`.
+fn next_span(at: usize, item: OpenItem) -> usize
+    requires { item.fields ≤ 549755813888 }
+    ensures { result ≡ span_start at item }
 {
-    if s.count == 0 {
-        return s.fields + 4;
+    if item.count == 0 {
+        return item.fields + 4;
     }
-    s.at
+    at
 }
 
 // A span of one space.
@@ -170,20 +168,20 @@ fn put_space(out: &mut [u8], at: usize)
 }
 
 // The last item goes on: a span of one space, and those of a text; its span count and map byte are stored anew.
-pub(crate) fn continue_item(text: &[u8], out: &mut [u8], s: State) -> State
-    requires { (s.at ≤ 412316860416) × ((length text.now ≤ 1048576) × ((s.fields ≤ s.at) × ((s.count ≤ s.at) × (s.map ≤ 6)))) }
-    ensures { (result ≡ continued_after s (spans (chars text.now)))
-        × (out.new ≡ continued_out s (spans (chars text.now)) out.old) }
+pub(crate) fn continue_item(text: &[u8], out: &mut [u8], s: State, item: OpenItem) -> State
+    requires { (s.at ≤ 412316860416) × ((length text.now ≤ 1048576) × SafeItem item s.at) }
+    ensures { (result ≡ continued_after s item (spans (chars text.now)))
+        × (out.new ≡ continued_out s item (spans (chars text.now)) out.old) }
 {
-    let start = next_span(s);
+    let start = next_span(s.at, item);
     put_space(out, start);
     let w = spans::spans(text, out, start + 6);
-    let count = s.count + 1 + w.count;
-    records::writer::put_u32(out, s.fields, count);
-    records::writer::put(out, s.head, s.map + 8);
+    let count = item.count + 1 + w.count;
+    records::writer::put_number::<4>(out, item.fields, count);
+    records::writer::put(out, item.head, item.map + 8);
     State {
         at: w.next,
-        count,
+        item: Some(OpenItem { count, ..item }),
         ..s
     }
 }

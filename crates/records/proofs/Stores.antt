@@ -1,17 +1,19 @@
 -- Runs of stores: one after another, one whose head is stored into the gap before its text, and those past the end.
 -- Assumes nothing.
-use Prim.Native.Nat.{ℕ, suc, ◌+◌, ◌-◌, ◌≤◌, ◌<◌, min}
+use Prim.Native.Nat.{ℕ, zero, suc, ◌+◌, ◌-◌, ◌≤◌, ◌<◌, min}
 use native.Mathlib.Nat.{add-zero, zero-add}
 use native.Mathlib.Numerals.{add-one}
 use native.Mathlib.Omega.{arith}
 use mathlib.Core.Path.{◌≡◌, refl, sym, ap, ap₂, ◌∙◌}
 use mathlib.Core.Logic.{⊎_elim}
-use mathlib.Core.List.{List, [], ◌∷◌, ◌++◌, append-nil}
-use lib.ListN.{length, drop, get_or, set, replicate, drop_of_length-le}
+use mathlib.Core.List.{List, [], ◌∷◌, ◌++◌, append_assoc}
+use lib.ListN.{length, take, drop, get_or, set, drop_of_length-le, take-append-drop}
 use lib.Dec.{leb}
 use borrow.Author.Tests.{leb-true, leb-false}
 use Rattle.text.proofs.Tests.{decide}
-use lib.Seq.{sets, set_comm, set_out, drop-cons, drop-length, sets-eq}
+use lib.Seq.{sets, set_comm, set_out, drop-cons, drop-drop, sets-eq, length-sets, length-take-le}
+use borrow.Rule.Slice.PartMut.{put_mid}
+use Rattle.std.specs.Int.{byte_at, bytes_low_first}
 
 -- two runs, the second behind the first, are one
 pub sets_append : (l : List ℕ) (a : ℕ) (h t : List ℕ) → sets l a (h ++ t) ≡ sets (sets l a h) (a + length h) t
@@ -50,14 +52,6 @@ sets_next l s a i h =
     (ap (sets l (a + i)) (drop-cons s i 0 h)
     ∙ ap₂ (λ (n m : ℕ). sets (set l (a + i) (get_or s i 0)) n (drop m s)) (omega arith) (sym (add-one i)))
 
--- a loop that zeroes a buffer, at its end
-pub cleared : (out₀ : List ℕ) (i : ℕ) {out : List ℕ} → i ≡ length out₀ → out ≡ replicate i 0 ++ drop i out₀ → out ≡ replicate (length out₀) 0
-cleared out₀ i e p =
-    p
-    ∙ ap (λ (k : ℕ). replicate k 0 ++ drop k out₀) e
-    ∙ ap (λ (l : List ℕ). replicate (length out₀) 0 ++ l) (drop-length out₀)
-    ∙ append-nil (replicate (length out₀) 0)
-
 -- nothing is left to store, or no room
 pub sets_rest : (l s : List ℕ) (a i : ℕ) → min (length s) (length l - a) ≤ i → sets l (a + i) (drop i s) ≡ l
 sets_rest l s a i h =
@@ -65,3 +59,21 @@ sets_rest l s a i h =
     (λ e. ap (sets l (a + i)) (drop_of_length-le s (leb-true (length s) i e)))
     (λ e. sets_out l (a + i) (drop i s) (omega (arith, leb-false (length s) i e)))
     (decide (leb (length s) i))
+
+-- the part of a run that there is room for, in its place
+pub sets_part : (l s : List ℕ) (a n : ℕ) → a ≤ length l → n ≡ min (length s) (length l - a) → put_mid a (a + n - a) l (take n s) ≡ sets l a s
+sets_part l s a n h e =
+    let m : length (take n s) ≡ n = length-take-le n s (omega arith) in
+    let k : a + n - a ≡ n = omega arith in
+    let whole : sets l a s ≡ sets l a (take n s) =
+    ap (sets l a) (sym (take-append-drop n s)) ∙ sets_append l a (take n s) (drop n s)
+    ∙ ap (λ (k : ℕ). sets (sets l a (take n s)) (a + k) (drop n s)) m
+    ∙ sets_rest (sets l a (take n s)) s a n (rw length-sets (omega arith)) in
+    let end : drop n (drop a l) ≡ drop (a + length (take n s)) l = drop-drop n a l ∙ ap (λ (k : ℕ). drop (a + k) l) (sym m) in
+    rw (k, end) (sym (append_assoc (take a l) (take n s) (drop (a + length (take n s)) l)) ∙ sym (sets-eq (take n s) l a (omega arith)) ∙ sym whole)
+
+-- the lower bytes of a number are the first ones of more of them
+pub bytes_front : (i k m n : ℕ) → k ≤ m → take k (bytes_low_first i m n) ≡ bytes_low_first i k n
+bytes_front i zero m n h = refl
+bytes_front i (suc k) zero n h = absurd (omega arith)
+bytes_front i (suc k) (suc m) n h = ap (λ (l : List ℕ). byte_at i n ∷ l) (bytes_front (suc i) k m n (omega arith))

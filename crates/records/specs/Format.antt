@@ -1,17 +1,21 @@
 -- The record of a block, and which blocks have one (document 01, "Records").
 -- Assumes nothing.
-use Rattle.std.specs.Prelude.{ℕ, zero, suc, ◌+◌, ◌/◌, ◌%◌, ◌^◌, ◌<◌, ◌≤◌, ◌≡◌, Bool, true, false, ◌&&◌, ◌||◌, List, [], ◌∷◌, ◌++◌, length, leb, eqb}
+use Rattle.std.specs.Prelude.{ℕ, zero, suc, ◌+◌, ◌^◌, ◌<◌, ◌≤◌, ◌≡◌, Bool, true, false, ◌&&◌, ◌||◌, List, [], ◌∷◌, ◌++◌, length, leb, eqb}
+use Rattle.std.specs.Int.{bytes_low_first}
 use Rattle.text.specs.Words.{str, same}
 use Rattle.text.specs.Chars.{is_digit}
 use Rattle.text.specs.Utf8.{Scalars, size, encode}
 use Rattle.records.specs.Blocks.{Span, Kind, heading, paragraph, item, Block}
 
--- integers, little-endian
+-- integers, little-endian: the k lower bytes of n, the lowest first
+abbrev pub little_endian : ℕ → ℕ → List ℕ
+little_endian k n = bytes_low_first 0 k n
+
 abbrev pub le16 : ℕ → List ℕ
-le16 n = n % 256 ∷ n / 256 % 256 ∷ []
+le16 n = little_endian 2 n
 
 abbrev pub le32 : ℕ → List ℕ
-le32 n = n % 256 ∷ n / 256 % 256 ∷ n / 65536 % 256 ∷ n / 16777216 % 256 ∷ []
+le32 n = little_endian 4 n
 
 -- a bit's value v in a map byte
 abbrev pub bit : Bool → ℕ → ℕ

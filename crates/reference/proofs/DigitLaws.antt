@@ -2,11 +2,13 @@
 -- Assumes nothing.
 use Prim.Native.Nat.{ℕ, suc, ◌+◌, ◌*◌, ◌-◌, ◌^◌, ◌≤◌, ◌<◌}
 use mathlib.Core.Bool.{true, false}
-use mathlib.Core.List.{List}
+use mathlib.Core.List.{List, [], ◌∷◌}
 use mathlib.Core.Logic.{⊎_elim}
 use mathlib.Core.Option.{none, some}
-use mathlib.Core.Path.{◌≡◌}
-use borrow.Author.Tests.{lt-ltb, le-ltb}
+use mathlib.Core.Path.{◌≡◌, refl}
+use borrow.Author.Tests.{lt-ltb, le-ltb, ltb-true, ltb-false, eqb-true}
+use lib.Dec.{ltb}
+use Rattle.std.specs.Bool.{◌==◌}
 use native.Mathlib.Numerals.{add-one}
 use native.Mathlib.Nat.{mul-le-mul, lt_of_lt_of_le}
 use native.Mathlib.Omega.{arith}
@@ -16,6 +18,8 @@ use lib.Seq.{drop-cons, drop-drop}
 use Rattle.text.specs.Words.{starts}
 use Rattle.text.specs.Chars.{within}
 use Rattle.text.proofs.Tests.{decide, within_true}
+use Rattle.std.specs.Char.{digit_value}
+use Rattle.std.proofs.lemmas.Bool.Decides.{nat_tests}
 use Rattle.reference.specs.Unescape.{digit, digits, from_str_radix, some_digits}
 
 -- ---- one digit
@@ -44,6 +48,22 @@ module _ (c : ℕ) where
         (λ m. ⊎_elim (λ e. rw (digit_A m e) (omega (arith, within_true 65 70 c e))) (λ k. rw (digit_none m k) (omega arith)) (decide (within 65 70 c)))
         (decide (within 97 102 c))
 
+-- ---- one digit by the library, whose digits go up to 35
+pub value_is : (c : ℕ) → digit_value c < 16 → digit c ≡ digit_value c
+unfolding digit
+value_is c h = grind (arith, nat_tests)
+
+no_value : (c : ℕ) → 16 ≤ digit_value c → 16 ≤ digit c
+unfolding digit
+no_value c h = grind (arith, nat_tests)
+
+pub past_radix : (c radix : ℕ) → radix ≤ 16 → (digit_value c < radix → ⊥) → radix ≤ digit c
+past_radix c radix l h =
+    ⊎_elim
+    (λ e. let q = value_is c (ltb-true (digit_value c) 16 e) in omega arith)
+    (λ e. let q = no_value c (ltb-false (digit_value c) 16 e) in omega arith)
+    (decide (ltb (digit_value c) 16))
+
 -- ---- one digit more
 pub room : (k v radix d : ℕ) → v < 2 ^ (4 * k) → d < radix → radix ≤ 16 → v * radix + d < 2 ^ (4 * (k + 1))
 room k v radix d h l m =
@@ -51,9 +71,6 @@ room k v radix d h l m =
     let p : suc v * radix ≤ 2 ^ (4 * k) * 16 = mul-le-mul h m in
     let q : suc v * radix ≡ v * radix + radix = omega arith in
     rw (e, pow-add 2 (4 * k) 4) (omega arith)
-
-pub room_next : (i j v radix d : ℕ) → i ≤ j → v < 2 ^ (4 * (j - i)) → d < radix → radix ≤ 16 → v * radix + d < 2 ^ (4 * (j + 1 - i))
-room_next i j v radix d l h m n = let e : j + 1 - i ≡ j - i + 1 = omega arith in rw e (room (j - i) v radix d h m n)
 
 -- 8 digits make a number of 32 bits
 pub fits : (k v : ℕ) → v < 2 ^ (4 * k) → k ≤ 8 → v < 2 ^ 32
@@ -74,13 +91,15 @@ unfolding digits
 digits_end radix v s j l = rw (drop_of_length-le s l)
 
 -- ---- at least one
-pub no_digits : (radix : ℕ) (s : List ℕ) (i : ℕ) → length s ≤ i → some_digits radix (drop i s) ≡ none
+pub no_digits : (radix : ℕ) (s : List ℕ) → (length s == 0) ≡ true → some_digits radix s ≡ none
 unfolding some_digits
-no_digits radix s i l = rw (drop_of_length-le s l)
+no_digits radix [] e = refl
+no_digits radix (c ∷ s) e = let z = eqb-true (suc (length s)) 0 e in absurd (omega arith)
 
-pub more_digits : (radix : ℕ) (s : List ℕ) (i : ℕ) → i < length s → some_digits radix (drop i s) ≡ digits radix 0 (drop i s)
+pub more_digits : (radix : ℕ) (s : List ℕ) → (length s == 0) ≡ false → some_digits radix s ≡ digits radix 0 s
 unfolding some_digits
-more_digits radix s i l = rw (drop-cons s i 0 l)
+more_digits radix [] e = cc
+more_digits radix (c ∷ s) e = refl
 
 -- ---- with a `+`, and without
 pub from_plus : (radix : ℕ) (s : List ℕ) (i : ℕ) → starts "+" (drop i s) ≡ true → from_str_radix radix (drop i s) ≡ some_digits radix (drop (i + 1) s)

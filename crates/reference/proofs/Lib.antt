@@ -1,5 +1,6 @@
 pub mod DigitLaws
 pub mod NameLaws
+pub mod PrefixLaws
 pub mod AnswerLaws
 pub mod SplitLaws
 pub mod AsciiNames

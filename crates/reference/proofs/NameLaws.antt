@@ -1,37 +1,31 @@
 -- The laws of names: what each test on the way of `named` says.
 -- Assumes nothing.
 use Prim.Native.Nat.{ℕ}
-use Prim.Native.Char.{Char, code}
 use Prim.Native.String.{String}
 use mathlib.Core.Bool.{Bool, true, false, ◌&&◌, not}
 use mathlib.Core.List.{List, [], ◌∷◌}
 use mathlib.Core.Logic.{⊎_elim}
 use mathlib.Core.Option.{Option, none, some}
-use mathlib.Core.Path.{◌≡◌, refl, sym, ◌∙◌}
+use mathlib.Core.Path.{◌≡◌, refl, sym, ap, ◌∙◌}
 use borrow.Author.Tests.{eqb-true, eqb-false, eq-eqb, ne_eqb}
-use lib.Dec.{eqb, eqb-zero-suc, eqb-suc-zero, eqb-suc-suc}
-use lib.ListN.{length, drop}
-use Rattle.text.specs.Words.{◌>>=◌, ensure, case, str, same, starts_with, starts, lookup}
+use lib.Dec.{eqb}
+use lib.Pointwise.{pointwise}
+use lib.ListN.{drop}
+use Rattle.text.specs.Words.{◌>>=◌, ensure, str, same, starts}
 use Rattle.text.specs.Chars.{is_scalar, is_control}
 use Rattle.text.proofs.Tests.{decide, same_true}
 use Rattle.reference.specs.Unescape.{from_str_radix, names, number, named, is_hexadecimal, written}
 
--- ---- texts of one length, of which one starts with the other
+-- ---- a comparison of slices
 eqb_sym : (c d : ℕ) → eqb c d ≡ eqb d c
 eqb_sym c d =
     ⊎_elim (λ e. e ∙ sym (eq-eqb d c (sym (eqb-true c d e)))) (λ e. e ∙ sym (ne_eqb d c (λ q. eqb-false c d e (sym q)))) (decide (eqb c d))
 
-under : (a b p q : Bool) → a && p ≡ q → a && (b && p) ≡ b && q
-under true true p q e = e
-under true false p q e = refl
-under false true p q e = e
-under false false p q e = refl
-
-pub same_is : (t s : List ℕ) → eqb (length s) (length t) && starts_with t s ≡ same t s
-same_is [] [] = refl
-same_is [] (c ∷ s) = rw (eqb-suc-zero (length s))
-same_is (d ∷ t) [] = rw (eqb-zero-suc (length t))
-same_is (d ∷ t) (c ∷ s) = rw (eqb-suc-suc (length s) (length t), eqb_sym c d) (under (eqb (length s) (length t)) (eqb d c) (starts_with t s) (same t s) (same_is t s))
+pub equal_same : (s t : List ℕ) → pointwise eqb s t ≡ same t s
+equal_same [] [] = refl
+equal_same [] (d ∷ t) = refl
+equal_same (c ∷ s) [] = refl
+equal_same (c ∷ s) (d ∷ t) = rw (eqb_sym c d) (ap (λ (b : Bool). eqb d c && b) (equal_same s t))
 
 -- ---- the number that a name writes
 module _ (name : List ℕ) where
@@ -68,25 +62,6 @@ module _ (name : List ℕ) where
 
     pub number_is : is_scalar c ≡ true → is_control c ≡ false → number name ≡ some c
     number_is s k = rw (number_written name, e, s, k)
-
--- ---- the names, one after the other, and then a number
-abbrev pub among : List (String × Char) → List ℕ → Option ℕ
-among rows name = case (lookup rows name) (number name) (λ d. some (code d))
-
-module _ (p : String) (d : Char) (rows : List (String × Char)) (name : List ℕ) where
-  pub hit : same (str p) name ≡ true → among ((p, d) ∷ rows) name ≡ some (code d)
-  hit e = rw e
-
-  pub miss : same (str p) name ≡ false → among ((p, d) ∷ rows) name ≡ among rows name
-  miss e = rw e
-
--- a name that is none of the first k
-abbrev pub Past : ℕ → List ℕ → Type 0
-Past k name = named name ≡ among (drop k names) name
-
-pub past_none : (name : List ℕ) → Past 0 name
-unfolding named
-past_none name = refl
 
 -- ---- a name is one of the six, or none of them
 pub data Word : Type 0 where
@@ -150,3 +125,17 @@ named_word nbsp = refl
 pub named_other : (u : List ℕ) → Other u → named u ≡ number u
 unfolding named names
 named_other u h = rw (h amp, h lt, h gt, h quot, h apos, h nbsp)
+
+-- what a comparison with one of the six says
+module _ (k : Word) (u t : List ℕ) (r : Bool) (word_is : t ≡ str (spelling k)) (told : r ≡ pointwise eqb u t) where
+  compared : r ≡ same (str (spelling k)) u
+  compared = told ∙ ap (pointwise eqb u) word_is ∙ equal_same u (str (spelling k))
+
+  pub is_word : r ≡ true → named u ≡ some (meant k)
+  is_word e = ap named (sym (same_true (str (spelling k)) u (sym compared ∙ e))) ∙ named_word k
+
+  pub is_other : r ≡ false → Not u k
+  is_other e = sym compared ∙ e
+
+pub none_of : (u : List ℕ) → Not u amp → Not u lt → Not u gt → Not u quot → Not u apos → Not u nbsp → named u ≡ number u
+none_of u a b c d e f = named_other u (elim [ amp ↦ a | lt ↦ b | gt ↦ c | quot ↦ d | apos ↦ e | nbsp ↦ f ])

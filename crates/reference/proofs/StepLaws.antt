@@ -1,11 +1,12 @@
 -- The laws of the reference step: what stands before the first `;`, in characters and in bytes.
 -- Assumes nothing.
-use Prim.Native.Nat.{ℕ, suc, ◌+◌, ◌-◌, ◌≤◌, ◌<◌}
+use Prim.Native.Nat.{ℕ, suc, min, ◌+◌, ◌-◌, ◌≤◌, ◌<◌}
 use mathlib.Core.List.{List, [], ◌∷◌, ◌++◌, append_assoc}
 use mathlib.Core.Logic.{⊎_elim}
 use mathlib.Core.Option.{none, some}
-use mathlib.Core.Path.{◌≡◌, sym, ap, ◌∙◌}
-use borrow.Author.Tests.{leb-true, le-leb}
+use mathlib.Core.Path.{◌≡◌, refl, sym, ap, ◌∙◌}
+use borrow.Author.Tests.{leb-true, leb-false, le-leb}
+use Rattle.std.proofs.lemmas.List.{take_all}
 use native.Mathlib.Omega.{arith}
 use lib.Dec.{leb}
 use lib.ListN.{length, take, drop, length-append, length-take, take-append-drop}
@@ -56,6 +57,24 @@ near_none bs e = by (first 59 bs)
         ap (λ (l : List ℕ). reference (chars l)) q
         ∙ bytes_here u v w
         ∙ ⊎_elim (λ t. absurd (far u v w q (omega (arith, leb-true (1 + length u) 10 t)))) (λ t. rw t) (decide (leb (1 + length u) 10))
+
+-- at the end nothing is found
+pub near_end : (bs : List ℕ) → bs ≡ [] → reference (chars bs) ≡ none
+unfolding index
+near_end bs e = near_none bs (rw e refl)
+
+-- all bytes where there are no more than 10
+pub near_take : (bs : List ℕ) → take (min (length bs) 10) bs ≡ take 10 bs
+near_take bs =
+    ⊎_elim
+    (λ t.
+    let l = leb-true (length bs) 10 t in
+    take_all (min (length bs) 10) bs (omega arith) ∙ sym (take_all 10 bs l))
+    (λ t.
+    let l = leb-false (length bs) 10 t in
+    let k : min (length bs) 10 ≡ 10 = omega arith in
+    ap (λ (n : ℕ). take n bs) k)
+    (decide (leb (length bs) 10))
 
 pub record Near (bs : List ℕ) (n : ℕ) : Type 0 where
   pub small : n ≤ 9

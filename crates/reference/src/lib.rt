@@ -7,168 +7,100 @@ ghost use Rattle.text.specs.Utf8.{chars};
 ghost use Rattle.reference.specs.Unescape.{digit, from_str_radix, number, named, reference, some_digits, is_hexadecimal, written};
 ghost use Rattle.reference.specs.Answers.{answer, value};
 
-use text::Found;
-
-// What becomes of an `&`.
+// What a reference is replaced by: its character; and how many bytes it has after the `&`.
 #[derive(Clone, Copy)]
-pub enum Ampersand {
-    // It starts a reference: the character that this stands for, and how many bytes after the `&` it has.
-    Replaced(u32, usize),
-    // It stands for itself.
-    Left,
+pub struct Replacement {
+    pub code: u32,
+    pub len: usize,
 }
 
-// What a name stands for.
-#[derive(Clone, Copy)]
-enum Value {
-    Is(u32),
-    Nothing,
-}
-
-// The value of a digit; 16 is none.
-fn digit(c: u32) -> u32
-    ensures { result ≡ digit c }
+// The number that digits make. At most 8 of them make a number of 32 bits.
+fn some_digits(digits: &[u8], radix: u32) -> Option<u32>
+    requires { (length digits.now ≤ 8) × ((2 ≤ radix) × (radix ≤ 16)) }
+    ensures { result ≡ value (some_digits radix digits.now) }
 {
-    if text::within(48, 57, c) {
-        return c - 48;
+    if digits.is_empty() {
+        return None;
     }
-    if text::within(97, 102, c) {
-        return c - 87;
+    let mut v = 0;
+    for b in digits {
+        v = v * radix + char::from(*b).to_digit(radix)?;
     }
-    if text::within(65, 70, c) {
-        return c - 55;
-    }
-    16
+    Some(v)
 }
 
-// The number that the digits from i on make. At most 8 of them make a number of 32 bits.
-fn some_digits(s: &[u8], i: usize, radix: u32) -> Value
-    requires { (length s.now ≤ 9) × ((1 ≤ i) × (radix ≤ 16)) }
-    ensures { result ≡ value (some_digits radix (drop i s.now)) }
+// The number of digits that may have one `+` before them. No `u32::from_str_radix`: it wants a `str`, and with that test five digits take 180
+// instructions in place of 80.
+fn from_str_radix(s: &[u8], radix: u32) -> Option<u32>
+    requires { (length s.now ≤ 8) × ((2 ≤ radix) × (radix ≤ 16)) }
+    ensures { result ≡ value (from_str_radix radix s.now) }
 {
-    if s.len() <= i {
-        return Value::Nothing;
-    }
-    let mut v: u32 = 0;
-    let mut j = i;
-    while j < s.len() {
-        let d = digit(s[j] as u32);
-        if radix <= d {
-            return Value::Nothing;
-        }
-        v = v * radix + d;
-        j += 1;
-    }
-    Value::Is(v)
-}
-
-// The number from i on, which may have one `+` before its digits.
-fn from_str_radix(s: &[u8], i: usize, radix: u32) -> Value
-    requires { (length s.now ≤ 9) × ((1 ≤ i) × ((i ≤ 2) × (radix ≤ 16))) }
-    ensures { result ≡ value (from_str_radix radix (drop i s.now)) }
-{
-    if text::starts_with(s, i, b"+") {
-        return some_digits(s, i + 1, radix);
-    }
-    some_digits(s, i, radix)
-}
-
-// Whether a name writes a hexadecimal number.
-fn is_hexadecimal(name: &[u8]) -> bool
-    ensures { result ≡ is_hexadecimal name.now }
-{
-    text::starts_with(name, 0, b"#x") | text::starts_with(name, 0, b"#X")
+    some_digits(s.strip_prefix(b"+").unwrap_or(s), radix)
 }
 
 // The number that a name writes.
-fn written(name: &[u8]) -> Value
+fn written(name: &[u8]) -> Option<u32>
     requires { length name.now ≤ 9 }
     ensures { result ≡ value (written name.now) }
 {
-    if !text::starts_with(name, 0, b"#") {
-        return Value::Nothing;
+    let hexadecimal = name.strip_prefix(b"#x").or(name.strip_prefix(b"#X"));
+    if let Some(digits) = hexadecimal {
+        return from_str_radix(digits, 16);
     }
-    if is_hexadecimal(name) {
-        return from_str_radix(name, 2, 16);
-    }
-    from_str_radix(name, 1, 10)
+    from_str_radix(name.strip_prefix(b"#")?, 10)
 }
 
 // The character whose number a name writes.
-fn number(name: &[u8]) -> Value
+fn number(name: &[u8]) -> Option<u32>
     requires { length name.now ≤ 9 }
     ensures { result ≡ value (number name.now) }
 {
-    let Value::Is(c) = written(name) else {
-        return Value::Nothing;
-    };
+    let c = written(name)?;
     if !text::is_scalar(c) {
-        return Value::Nothing;
+        return None;
     }
     if text::is_control(c) {
-        return Value::Nothing;
+        return None;
     }
-    Value::Is(c)
+    Some(c)
 }
 
-// Whether s is t.
-fn same(s: &[u8], t: &[u8]) -> bool
-    ensures { result ≡ same t.now s.now }
-{
-    (s.len() == t.len()) & text::starts_with(s, 0, t)
-}
-
-// The character that a name stands for.
-fn named(name: &[u8]) -> Value
+// The character that a name stands for. No `match` on the six: in its last arm, where 18 branches join, the proof knows none of the bytes tested.
+fn named(name: &[u8]) -> Option<u32>
     requires { length name.now ≤ 9 }
     ensures { result ≡ value (named name.now) }
 {
-    if same(name, b"amp") {
-        return Value::Is(38);
+    if name == b"amp".as_slice() {
+        return Some(38);
     }
-    if same(name, b"lt") {
-        return Value::Is(60);
+    if name == b"lt".as_slice() {
+        return Some(60);
     }
-    if same(name, b"gt") {
-        return Value::Is(62);
+    if name == b"gt".as_slice() {
+        return Some(62);
     }
-    if same(name, b"quot") {
-        return Value::Is(34);
+    if name == b"quot".as_slice() {
+        return Some(34);
     }
-    if same(name, b"apos") {
-        return Value::Is(39);
+    if name == b"apos".as_slice() {
+        return Some(39);
     }
-    if same(name, b"nbsp") {
-        return Value::Is(32);
+    if name == b"nbsp".as_slice() {
+        return Some(32);
     }
     number(name)
 }
 
-// The bytes from i on, 10 at most.
-fn near(s: &[u8], i: usize) -> &[u8]
-    ensures { result.now ≡ take 10 (drop i s.now) }
-{
-    let n = s.len();
-    if n <= i {
-        return &s[n..];
-    }
-    if n - i < 10 {
-        return &s[i..];
-    }
-    let end = i + 10;
-    &s[i..end]
-}
-
 // What becomes of the `&` before i in a piece of text. At most 10 bytes are looked at.
-pub fn reference(s: &[u8], i: usize) -> Ampersand
+pub fn reference(s: &[u8], i: usize) -> Option<Replacement>
     ensures { result ≡ answer (reference (chars (drop i s.now))) }
 {
-    let next = near(s, i);
-    let Found::Here(n) = text::find(next, 0, b';') else {
-        return Ampersand::Left;
-    };
-    let Value::Is(c) = named(&next[..n]) else {
-        return Ampersand::Left;
-    };
-    Ampersand::Replaced(c, n + 1)
+    let rest = s.get(i..)?;
+    let near = &rest[..rest.len().min(10)];
+    let n = text::find(near, 0, b';')?;
+    let c = named(&near[..n])?;
+    Some(Replacement {
+        code: c,
+        len: n + 1,
+    })
 }

@@ -1,21 +1,20 @@
 // Sections by title: the input is the title's length in one byte, the title and the records; the answer is the part of the records that is the section,
 // and empty where no heading has the title, since a section has its heading at least. `compare/run NOTES_RS cases` made them.
-use sections::SectionAnswer;
+use crate::case::Case;
 
-pub(crate) fn agrees(input: &[u8], want: usize, answer: &[u8]) -> bool {
-    let n = (text::byte(input, 0) % 256) as usize;
-    let rest = text::past(input, 1);
-    let title = text::front(rest, n);
-    let records = text::past(rest, n);
+pub(crate) fn agrees(case: Case) -> bool {
+    let Some((size, rest)) = case.input.split_first() else {
+        return false;
+    };
+    let title = text::front(rest, *size as usize);
+    let records = text::past(rest, *size as usize);
     let part = sections::section(records, title);
     match sections::section_at(records, title) {
-        SectionAnswer::At { start, end } => {
-            (0 < want)
-                & (part.len() == want)
-                & check::same(part, answer)
-                & check::same(text::past(text::front(records, end), start), answer)
+        Ok(Some(place)) => {
+            let found = text::past(text::front(records, place.end), place.start);
+            !part.is_empty() & (case.answer == Ok(part)) & (found == part)
         }
-        SectionAnswer::Missing => (want == 0) & (part.len() == 0),
-        SectionAnswer::Bad => (want == 0xFFFFFF07) & (part.len() == 0),
+        Ok(None) => part.is_empty() & (case.answer == Ok(part)),
+        Err(broken) => part.is_empty() & (case.answer == Err(broken.into())),
     }
 }

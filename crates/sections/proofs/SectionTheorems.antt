@@ -19,7 +19,7 @@ use Rattle.records.proofs.RoundTrip.{decoded_are_records}
 use Rattle.walker.specs.Answers.{refused, gives}
 use Rattle.walker.specs.Walk.{Walk, Breaks}
 use Rattle.walker.specs.Decoded.{of_blocks}
-use Rattle.walker.specs.declared.Range.{Range}
+use Rattle.text.specs.declared.parts.Part.{Part}
 use Rattle.walker.proofs.Decoded.{from_start, HoldsBlocks, holds_blocks}
 use Rattle.walker.proofs.WalkTheorems as W
 use Rattle.sections.specs.Sections.{titled, until, section_of, NoHeading}
@@ -37,7 +37,7 @@ module _ {A : Type 0} (f : List Block → A) where
   not_given (parsed bs q) e = let z : ◌≡◌ {A = ℕ} 0 1 = cc in absurd (omega arith)
 
 -- the records are those of some blocks, and the part is inside them and walks to the first section of these that has the title
-pub record IsSection (s title : List ℕ) (r : Range) : Type 0 where
+pub record IsSection (s title : List ℕ) (r : Part) : Type 0 where
   pub blocks : List Block
   pub decoded : decode_blocks s ≡ parsed blocks []
   pub section : List Block
@@ -54,7 +54,7 @@ module _ (s title : List ℕ) (b : Bytes s) where
       record { blocks = before ++ (x ++ behind); decoded = d; section = x; first = f; part = p; walks = W.part_walks p }
 
   -- where a part is answered
-  pub section_found : {r : Range} → section_answer s title ≡ gives (some r) → IsSection s title r
+  pub section_found : {r : Part} → section_answer s title ≡ gives (some r) → IsSection s title r
   unfolding section_answer section_place
   section_found {r} e =
       let (bs, q, d, f) = given (section_place title) (decode_blocks s) e in
@@ -77,7 +77,7 @@ module _ (s title : List ℕ) (b : Bytes s) where
       let r : w.section ≡ x = cc in
       subst (λ (l : List Block). Walk (section_bytes s title) 0 l) r (rw e w.walks)
 
-no_place : (f : List Block → Range) (o : Option (List Block)) → (o >>= λ x. some (f x)) ≡ none → o ≡ none
+no_place : (f : List Block → Part) (o : Option (List Block)) → (o >>= λ x. some (f x)) ≡ none → o ≡ none
 no_place f none e = refl
 no_place f (some x) e = let z : ◌≡◌ {A = ℕ} 0 1 = cc in absurd (omega arith)
 

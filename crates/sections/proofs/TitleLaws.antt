@@ -1,6 +1,6 @@
 -- One turn of the loop over the spans of a block: the title starts with the text of the span, and what is left of both is compared next.
 -- Assumes nothing.
-use Prim.Native.Nat.{ℕ, suc, ◌+◌, ◌-◌, ◌<◌, ◌≤◌, zero-le}
+use Prim.Native.Nat.{ℕ, suc, ◌+◌, ◌<◌, ◌≤◌, zero-le}
 use native.Mathlib.Omega.{arith}
 use native.Mathlib.Numerals.{add-one}
 use mathlib.Core.Path.{◌≡◌, refl, sym, ap, ◌∙◌}
@@ -8,9 +8,11 @@ use mathlib.Core.Bool.{Bool, true, false}
 use mathlib.Core.Logic.{⊎_elim}
 use mathlib.Core.List.{List, [], ◌∷◌, ◌++◌}
 use lib.ListN.{length, drop, length-append, length-drop, drop_of_length-le}
-use lib.Seq.{drop-drop, length-take-le}
+use lib.Seq.{drop-drop}
 use lib.Dec.{eqb}
 use borrow.Author.Tests.{eqb-true, eq-eqb}
+use Rattle.std.specs.Prelude.{Some, None, Ok, Err}
+use Rattle.std.specs.Prelude as code
 use Rattle.text.specs.Words.{same, starts_with}
 use Rattle.text.specs.Part.{between, Inside}
 use Rattle.text.specs.Utf8.{encode}
@@ -19,11 +21,9 @@ use Rattle.text.proofs.Tests.{decide, test_iff, same_true, starts_split, true_fa
 use Rattle.records.specs.Blocks.{Span, Block, joined}
 use Rattle.walker.specs.Answers.{Answer, at_end, refused, gives, map, found_at, block_answer}
 use Rattle.walker.specs.Places.{span_from, HereValues, first_answer, here_answer}
-use Rattle.walker.specs.Numbers.{first_values, here_values}
-use Rattle.walker.specs.declared.FirstAnswer.{FirstAnswer}
-use Rattle.walker.specs.declared.FirstAnswer.TheVariants as F
-use Rattle.walker.specs.declared.HereAnswer.{HereAnswer}
-use Rattle.walker.specs.declared.HereAnswer.TheVariants as H
+use Rattle.walker.specs.Numbers.{emphasis_in, first_values, here_values}
+use Rattle.walker.specs.declared.blocks.Broken.{Broken}
+use Rattle.walker.specs.declared.blocks.Span as S
 use Rattle.walker.proofs.SpanSteps.{SpanHere, never_bad, span_shown}
 use Rattle.sections.specs.Readers.{count_of, has_text}
 
@@ -72,22 +72,28 @@ module _ (s : List ℕ) (at : ℕ) (title : List ℕ) where
       record { f = f; found = e; counted = sym (rw e at h); stands = cc; most = zero-le; left = rw e }
 
   -- before the first turn
-  pub meets_first : {count first : ℕ} {r : FirstAnswer} → count ≡ count_of (block_answer s at) → first_values r ≡ first_answer s at → r ≡ F.At first → Meets s at title count first 0 0
+  pub meets_first : {count first : ℕ} {o : code.Option ℕ} → count ≡ count_of (block_answer s at) → o ≡ Some first → first_values (Ok o) ≡ first_answer s at
+      → Meets s at title count first 0 0
   unfolding first_answer
-  meets_first h g e = first_meets h (found_at s at) refl (sym (ap first_values e) ∙ g)
+  meets_first h e g = first_meets h (found_at s at) refl (sym (ap (λ (o : code.Option ℕ). first_values (Ok o)) e) ∙ g)
 
-  no_block : (r : FirstAnswer) → ((first : ℕ) → r ≡ F.At first → ⊥) → (a : Answer (Block × ℕ)) → first_values r ≡ map (λ f. span_from f.0.spans f.1 0) a
-      → false ≡ has_text title a
-  no_block r o at_end g = refl
-  no_block r o (refused k) g = refl
-  no_block (F.At first) o (gives f) g = absurd (o first refl)
-  no_block F.End o (gives f) g = let z : ◌≡◌ {A = ℕ} 0 1 = cc in absurd (omega arith)
-  no_block F.Bad o (gives f) g = let z : ◌≡◌ {A = ℕ} 0 1 = cc in absurd (omega arith)
+  -- where no first span is answered there is no block, and so no text
+  abbrev pub where_first : code.Result (code.Option ℕ) Broken → Bool → Bool
+  where_first (Ok (Some v)) t = t
+  where_first (Ok None) t = false
+  where_first (Err e) t = false
 
-  -- where no block stands
-  pub meets_none : (r : FirstAnswer) → ((first : ℕ) → r ≡ F.At first → ⊥) → first_values r ≡ first_answer s at → false ≡ has_text title (found_at s at)
+  no_block : (a : Answer (Block × ℕ)) → ((v : ℕ) → gives v ≡ map (λ f. span_from f.0.spans f.1 0) a → ⊥) → false ≡ has_text title a
+  no_block at_end g = refl
+  no_block (refused k) g = refl
+  no_block (gives f) g = absurd (g _ refl)
+
+  pub first_there : (r : code.Result (code.Option ℕ) Broken) → first_values r ≡ first_answer s at
+      → where_first r (has_text title (found_at s at)) ≡ has_text title (found_at s at)
   unfolding first_answer
-  meets_none r o g = no_block r o (found_at s at) g
+  first_there (Ok (Some v)) h = refl
+  first_there (Ok None) h = no_block (found_at s at) (λ v i. let z : ◌≡◌ {A = ℕ} 0 1 = cc in absurd (omega arith))
+  first_there (Err e) h = no_block (found_at s at) (λ v i. let z : ◌≡◌ {A = ℕ} 0 1 = cc in absurd (omega arith))
 
   module _ {count here met n : ℕ} (w : Meets s at title count here met n) where
     -- all spans were met
@@ -102,15 +108,15 @@ module _ (s : List ℕ) (at : ℕ) (title : List ℕ) where
       under = rw w.counted l
 
       -- a span stands there
-      pub meets_span : {r : HereAnswer} → r ≡ H.Bad → here_values r ≡ here_answer s here → false ≡ has_text title (found_at s at)
-      meets_span e g = absurd (never_bad s at w.found n under w.stands e g)
+      pub meets_span : {b : Broken} → here_values (Err b) ≡ here_answer s here → false ≡ has_text title (found_at s at)
+      meets_span g = absurd (never_bad s at w.found n under w.stands g)
 
-      module _ {r : HereAnswer} {b i c : Bool} {start end next : ℕ} (e : r ≡ H.Span b i c start end next) (g : here_values r ≡ here_answer s here) where
+      module _ (v : S.Span) (g : here_values (Ok v) ≡ here_answer s here) where
         abbrev values : HereValues
-        values = record { emphasis = record { bold = b; italic = i; code = c }; text = record { start = start; end = end }; next = next }
+        values = record { emphasis = emphasis_in v.emphasis; text = v.text; next = v.next }
 
         this : SpanHere s w.f n values
-        this = span_shown s at w.found n under w.stands e g
+        this = span_shown s at w.found n under w.stands g
 
         -- what is left, with the span's text in front
         abbrev piece : List ℕ
@@ -125,12 +131,15 @@ module _ (s : List ℕ) (at : ℕ) (title : List ℕ) where
             ∙ ap (λ (l : List Span). same (encode (joined l)) (drop met title)) (sym this.rest)
             ∙ w.left
 
-        meets_within : Inside s start end
+        meets_within : Inside s v.text.start v.text.end
         meets_within = this.holds.within
 
-        module _ {t : Bool} (u : t ≡ starts_with (between s start end) (drop met title)) where
+        module _ {p : List ℕ} (b : p ≡ between s v.text.start v.text.end) {t : Bool} (u : t ≡ starts_with p (drop met title)) where
+          piece_is : piece ≡ p
+          piece_is = sym this.holds.bytes ∙ sym b
+
           starts : starts_with piece (drop met title) ≡ t
-          starts = ap (λ (l : List ℕ). starts_with l (drop met title)) (sym this.holds.bytes) ∙ sym u
+          starts = ap (λ (l : List ℕ). starts_with l (drop met title)) piece_is ∙ sym u
 
           -- the title goes on otherwise
           meets_other : t ≡ false → false ≡ has_text title (found_at s at)
@@ -138,20 +147,13 @@ module _ (s : List ℕ) (at : ℕ) (title : List ℕ) where
 
           -- the title goes on with this text
           module _ (f : t ≡ true) where
-            piece_length : length piece ≡ end - start
-            piece_length =
-                let o : start ≤ end = meets_within.order in
-                let m : end ≤ length s = meets_within.bound in
-                let n : end - start ≤ length (drop start s) = rw length-drop (omega arith) in
-                ap length (sym this.holds.bytes) ∙ length-take-le (end - start) (drop start s) n
-
-            meets_most : met + (end - start) ≤ length title
+            meets_most : met + length p ≤ length title
             meets_most =
                 let m : met ≤ length title = w.most in
-                let p : length (drop met title) ≡ length (piece ++ drop (length piece) (drop met title)) = ap length (starts_split piece (drop met title) (starts ∙ f)) in
-                omega (arith, piece_length, p, length-append piece (drop (length piece) (drop met title)), length-drop met title)
+                let q : length (drop met title) ≡ length (piece ++ drop (length piece) (drop met title)) = ap length (starts_split piece (drop met title) (starts ∙ f)) in
+                omega (arith, ap length piece_is, q, length-append piece (drop (length piece) (drop met title)), length-drop met title)
 
-            meets_next : Meets s at title count next (met + (end - start)) (n + 1)
+            meets_next : Meets s at title count v.next (met + length p) (n + 1)
             meets_next =
                 record {
                   f = w.f;
@@ -159,22 +161,24 @@ module _ (s : List ℕ) (at : ℕ) (title : List ℕ) where
                   counted = w.counted;
                   stands = rw (add-one n) this.follows;
                   most = meets_most;
-                  left = rw (add-one n, ← piece_length, ← drop-drop (length piece) met title) (same_on piece behind (drop met title) (starts ∙ f) ∙ in_front);
+                  left = rw (add-one n, ← piece_is, ← drop-drop (length piece) met title) (same_on piece behind (drop met title) (starts ∙ f) ∙ in_front);
                 }
 
--- one turn, at a span whose text starts and ends here
-pub record Turn (s : List ℕ) (at : ℕ) (title : List ℕ) (count met n start end next : ℕ) : Type 0 where
-  pub within : Inside s start end
-  pub other : {t : Bool} → t ≡ starts_with (between s start end) (drop met title) → t ≡ false → false ≡ has_text title (found_at s at)
-  pub most : {t : Bool} → t ≡ starts_with (between s start end) (drop met title) → t ≡ true → met + (end - start) ≤ length title
-  pub again : {t : Bool} → t ≡ starts_with (between s start end) (drop met title) → t ≡ true → Meets s at title count next (met + (end - start)) (n + 1)
+-- one turn, at a span with this text
+pub record Turn (s : List ℕ) (at : ℕ) (title : List ℕ) (count met n : ℕ) (v : S.Span) (p : List ℕ) : Type 0 where
+  pub other : {t : Bool} → t ≡ starts_with p (drop met title) → t ≡ false → false ≡ has_text title (found_at s at)
+  pub most : {t : Bool} → t ≡ starts_with p (drop met title) → t ≡ true → met + length p ≤ length title
+  pub again : {t : Bool} → t ≡ starts_with p (drop met title) → t ≡ true → Meets s at title count v.next (met + length p) (n + 1)
 
-pub turn : (s : List ℕ) (at : ℕ) (title : List ℕ) {count here met n : ℕ} → Meets s at title count here met n → n < count
-    → {r : HereAnswer} {b i c : Bool} {start end next : ℕ} → r ≡ H.Span b i c start end next → here_values r ≡ here_answer s here → Turn s at title count met n start end next
-turn s at title w l e g =
-    record {
-      within = meets_within s at title w l e g;
-      other = λ u f. meets_other s at title w l e g u f;
-      most = λ u f. meets_most s at title w l e g u f;
-      again = λ u f. meets_next s at title w l e g u f;
-    }
+module _ (s : List ℕ) (at : ℕ) (title : List ℕ) {count here met n : ℕ} (w : Meets s at title count here met n) (l : n < count)
+    (v : S.Span) (g : here_values (Ok v) ≡ here_answer s here) where
+  pub text_within : Inside s v.text.start v.text.end
+  text_within = meets_within s at title w l v g
+
+  pub turn : {p : List ℕ} → p ≡ between s v.text.start v.text.end → Turn s at title count met n v p
+  turn b =
+      record {
+        other = λ u f. meets_other s at title w l v g b u f;
+        most = λ u f. meets_most s at title w l v g b u f;
+        again = λ u f. meets_next s at title w l v g b u f;
+      }

@@ -1,16 +1,10 @@
 -- Demand 3: for a page that is a sheet, converting gives its written form, and reading that gives exactly the blocks of its tree.
 -- Assumes nothing.
-use Prim.Native.Nat.{ℕ, ◌+◌, ◌*◌, ◌≤◌, ◌<◌}
-use native.Mathlib.Omega.{arith}
-use mathlib.Core.Path.{◌≡◌, sym, ◌∙◌, ap}
-use mathlib.Core.List.{List}
-use mathlib.Core.Option.{some}
-use borrow.Author.Tests.{le-ltb, ltb-true, leb-true}
-use lib.Dec.{ltb, leb}
-use lib.ListN.{length}
+use Rattle.std.proofs.Common.{◌≡◌, sym, ◌∙◌, ap, ℕ, ◌+◌, ◌*◌, ◌≤◌, ◌<◌, arith, List, le-ltb, length}
+use Rattle.std.proofs.lemmas.Bool.Decides.{nat_tests}
+use Rattle.std.proofs.Math.Option.{some}
 use Rattle.text.specs.Utf8.{size, encode}
 use Rattle.text.specs.Outcome.{wrote}
-use Rattle.text.proofs.Tests.{and_true}
 use Rattle.text.proofs.Laws.{decode_iff, decode_encode, size_encode}
 use Rattle.html.specs.Calls.{html_to_markdown_call}
 use Rattle.records.specs.Format.{encode_blocks}
@@ -37,9 +31,7 @@ module _ (page : List ℕ) (t : List Block) (sheet : IsSheet page t) where
 
   limits : (size (written t) < 16000) × (length (written t) ≤ 8000)
   unfolding small
-  limits =
-      let l = and_true (ltb (size (written t)) 16000) (leb (length (written t)) 8000) sheet.short in
-      (ltb-true (size (written t)) 16000 l.0, leb-true (length (written t)) 8000 l.1)
+  limits = let s = sheet.short in (grind (arith, nat_tests), grind (arith, nat_tests))
 
   converted : (work result : ℕ) → 2 * length page + 16384 ≤ work → 32000 ≤ result
       → html_to_markdown_call page work result ≡ wrote (encode (written t))

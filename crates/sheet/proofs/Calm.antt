@@ -1,15 +1,12 @@
 -- No comment starts in a written form: a `!` stands only after a `\`, so never after a `<`.
 -- Assumes nothing.
-use Prim.Native.Nat.{ℕ}
-use native.Mathlib.Omega.{arith}
-use mathlib.Core.Path.{◌≡◌, refl, ap}
-use mathlib.Core.Bool.{Bool, true, false, cond, not, ◌&&◌, and-false}
-use mathlib.Core.List.{List, [], ◌∷◌, ◌++◌, map}
-use borrow.Author.Tests.{not-true, ne_eqb}
-use lib.Dec.{eqb}
+use Rattle.std.proofs.Common.{◌≡◌, refl, ap, ℕ, arith, Bool, true, false, cond, not, ◌&&◌, List, [], ◌∷◌, ◌++◌, map, eqb}
+use Rattle.std.proofs.lemmas.Bool.Decides.{nat_tests}
+use mathlib.Core.Bool.{and-false}
+use borrow.Author.Tests.{not-true}
 use Rattle.text.specs.Words.{str, repeat, all, starts}
 use Rattle.text.specs.Chars.{is_digit}
-use Rattle.text.proofs.Tests.{within_true, and_true}
+use Rattle.text.proofs.Tests.{and_true}
 use Rattle.html.specs.State.{special}
 use Rattle.markdown.specs.Blocks.{comment, cleaned}
 use Rattle.sheet.specs.Tree.{Kind, Run, run, Block}
@@ -29,9 +26,7 @@ Safe s = (p : Bool) → calm p s ≡ true
 calm_append : (s t : List ℕ) (p : Bool) → calm p s ≡ true → Safe t → calm p (s ++ t) ≡ true
 unfolding calm
 calm_append [] t p e g = g p
-calm_append (c ∷ s) t p e g =
-    let f = and_true (not (p && eqb c 33)) (calm (eqb c 60) s) e in
-    rw f.0 (calm_append s t (eqb c 60) f.1 g)
+calm_append (c ∷ s) t p e g = let i = calm_append s t in grind (arith, nat_tests)
 
 safe_append : (s t : List ℕ) → Safe s → Safe t → Safe (s ++ t)
 safe_append s t h g p = calm_append s t p (h p) g
@@ -52,11 +47,12 @@ mild c = not (eqb c 33)
 safe_mild : (s : List ℕ) → all mild s ≡ true → Safe s
 safe_mild [] e = safe_nil
 safe_mild (c ∷ s) e =
-    let f = and_true (mild c) (all mild s) e in
-    safe_cons c s (not-true (eqb c 33) f.0) (safe_mild s f.1)
+    let h : eqb c 33 ≡ false = grind (arith, nat_tests) in
+    let i : all mild s ≡ true = grind (arith, nat_tests) in
+    safe_cons c s h (safe_mild s i)
 
 digit_mild : (c : ℕ) → is_digit c ≡ true → mild c ≡ true
-digit_mild c e = let f = within_true 48 57 c e in ap not (ne_eqb c 33 (λ e. omega arith))
+digit_mild c e = grind (arith, nat_tests)
 
 mild_marks : Marks mild
 mild_marks =

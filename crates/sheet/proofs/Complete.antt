@@ -1,16 +1,10 @@
 -- What is in the grammar the reader reads.
 -- Assumes nothing.
-use Prim.Native.Nat.{ℕ, zero, suc, ◌+◌, ◌-◌, ◌≤◌}
-use native.Mathlib.Omega.{arith}
-use native.Mathlib.Nat.{le_refl}
-use mathlib.Core.Path.{◌≡◌, refl, sym, ◌∙◌, ap, subst}
-use mathlib.Core.Bool.{Bool, true, false}
-use mathlib.Core.Option.{none, some}
-use mathlib.Core.List.{List, [], ◌∷◌, ◌++◌}
-use borrow.Author.Tests.{eqb-true, le-leb}
-use lib.Dec.{eqb}
-use lib.ListN.{length, length-append}
-use Rattle.text.specs.Words.{str, ◌>>=◌, ensure}
+use Rattle.std.proofs.Common.{◌≡◌, refl, ◌∙◌, ap, ℕ, zero, suc, ◌+◌, ◌≤◌, arith, le_refl, true, false, List, [], ◌∷◌, ◌++◌, eqb}
+use Rattle.std.proofs.Common.{length, length-append}
+use Rattle.std.proofs.lemmas.Bool.Decides.{nat_tests}
+use Rattle.std.proofs.Math.Option.{none, some}
+use Rattle.text.specs.Words.{str, ◌>>=◌}
 use Rattle.text.specs.Chars.{is_space, is_control}
 use Rattle.text.proofs.Tests.{false_true}
 use Rattle.sheet.specs.Reading.{◌<|>◌, strip, many}
@@ -48,11 +42,7 @@ no_tag G.&amp p = refl
 no_tag G.&gt p = refl
 no_tag G.&quot p = refl
 no_tag G.blank p = refl
-no_tag (G.own {s} c f) p = on (eqb 60 c) refl
-  where
-    on : (t : Bool) → eqb 60 c ≡ t → (ensure t >>= λ _. strip p s) ≡ none
-    on false g = refl
-    on true g = false_true (subst (λ (c : ℕ). shown c ≡ true) (sym (eqb-true 60 c g)) f)
+no_tag (G.own {s} c f) p = grind (arith, nat_tests)
 
 text_chars : {s r : List ℕ} {qs : List (List ℕ)} → Many Char s qs r → char r ≡ none → (n : ℕ) → length s ≤ n → many char n s ≡ (qs, r)
 text_chars (stop {s}) e n h = many_stop char n s e
@@ -236,7 +226,7 @@ read_list_reads (suc d) =
 -- blocks
 
 digit_complete : (n : ℕ) (s : List ℕ) → 1 ≤ n → n ≤ 6 → digit ((48 + n) ∷ s) ≡ some (n, s)
-digit_complete n s lo hi = let e : 48 + n - 48 ≡ n = omega arith in rw (le-leb 49 (48 + n) (omega arith), le-leb (48 + n) 54 (omega arith), e)
+digit_complete n s lo hi = grind (arith, nat_tests)
 
 closed_complete : (q : List ℕ) {s r : List ℕ} {l : List Run} → Line s l (q ++ r) → Ends (q ++ r) → closed_by q s ≡ some (l, r)
 unfolding closed_by

@@ -1,16 +1,14 @@
 -- What the grammar's conditions say, part by part: of a character that stands for itself, of a run's text, of the runs of a line.
 -- Assumes nothing.
-use Prim.Native.Nat.{ℕ}
-use mathlib.Core.Path.{◌≡◌, refl}
-use mathlib.Core.Bool.{true, false, not, ◌&&◌}
-use mathlib.Core.List.{List, [], ◌∷◌}
-use lib.Dec.{eqb}
+use Rattle.std.proofs.Common.{◌≡◌, refl, ℕ, true, false, not, List, [], ◌∷◌, eqb}
+use Rattle.std.proofs.Common.{arith}
+use Rattle.std.proofs.lemmas.Bool.Decides.{nat_tests}
 use Rattle.text.specs.Words.{is_empty}
-use Rattle.text.specs.Chars.{is_space, is_control}
-use Rattle.text.proofs.Tests.{and_true, false_true}
+use Rattle.text.specs.Chars.{is_space}
+use Rattle.text.proofs.Tests.{false_true}
 use Rattle.html.specs.State.{special}
 use Rattle.sheet.specs.Tree.{Kind, plain, strong, em, both, code, Run, run}
-use Rattle.sheet.specs.Grammar.{shown, none_of, singles, first_is, last_is, no_blank, edges, fits, touch, apart, first_letter, last_no_blank, neat}
+use Rattle.sheet.specs.Grammar.{shown, none_of, singles, first_is, last_is, no_blank, fits, apart, first_letter, last_no_blank, neat}
 
 -- ---- a character that stands for itself
 pub record Shown (c : ℕ) : Type 0 where
@@ -20,10 +18,7 @@ pub record Shown (c : ℕ) : Type 0 where
 
 pub a_shown : (c : ℕ) → shown c ≡ true → Shown c
 unfolding shown
-a_shown c h =
-    let a = and_true (not (is_control c) && not (is_space c) && not (eqb c 60)) (not (eqb c 38)) h in
-    let b = and_true (not (is_control c) && not (is_space c)) (not (eqb c 60)) a.0 in
-    record { no_space = (and_true (not (is_control c)) (not (is_space c)) b.0).1; no_tag = b.1; no_reference = a.1 }
+a_shown c h = grind (arith, nat_tests)
 
 -- ---- a run's text
 pub filled : {A : Type 0} (k : Kind) → fits k [] ≡ true → A
@@ -40,7 +35,7 @@ filled_text k (a ∷ t) e = refl
 
 pub code_text : (t : List ℕ) → fits code t ≡ true → none_of special t ≡ true
 unfolding fits
-code_text t f = (and_true (edges t) (none_of special t) (and_true (singles t) _ f).1).1
+code_text t f = grind (arith, nat_tests)
 
 -- a run in tags, and how its text ends
 abbrev pub InTags : Kind → Type 0
@@ -53,10 +48,10 @@ InTags code = Unit
 pub ends_of : (k : Kind) (t : List ℕ) → InTags k → fits k t ≡ true → last_is no_blank t ≡ true
 unfolding fits
 ends_of plain t n f = absurd n
-ends_of strong t n f = (and_true (first_is no_blank t) (last_is no_blank t) (and_true (singles t) _ f).1).1
-ends_of em t n f = (and_true (first_is no_blank t) (last_is no_blank t) (and_true (singles t) _ f).1).1
-ends_of both t n f = (and_true (first_is no_blank t) (last_is no_blank t) (and_true (singles t) _ f).1).1
-ends_of code t n f = (and_true (first_is no_blank t) (last_is no_blank t) (and_true (edges t) (none_of special t) (and_true (singles t) _ f).1).0).1
+ends_of strong t n f = grind (arith, nat_tests)
+ends_of em t n f = grind (arith, nat_tests)
+ends_of both t n f = grind (arith, nat_tests)
+ends_of code t n f = grind (arith, nat_tests)
 
 -- ---- the runs of a line
 pub record Neat (rs : List Run) : Type 0 where
@@ -66,12 +61,9 @@ pub record Neat (rs : List Run) : Type 0 where
 
 pub neat_of : (rs : List Run) → neat rs ≡ true → Neat rs
 unfolding neat
-neat_of rs f =
-    let a = and_true (apart rs && first_letter rs) (last_no_blank rs) f in
-    let b = and_true (apart rs) (first_letter rs) a.0 in
-    record { parted = b.0; first = b.1; last = a.1 }
+neat_of rs f = grind (arith, nat_tests)
 
 pub apart_rest : (x : Run) (rs : List Run) → apart (x ∷ rs) ≡ true → apart rs ≡ true
 unfolding apart
 apart_rest (run k t) [] a = refl
-apart_rest (run k t) (run l u ∷ rs) a = (and_true (not (touch k l)) (apart (run l u ∷ rs)) a).1
+apart_rest (run k t) (run l u ∷ rs) a = grind (arith, nat_tests)

@@ -1,14 +1,7 @@
 -- The converter's half of demand 3: it makes of a sheet's page its written form, limits included.
 -- Assumes nothing.
-use Prim.Native.Nat.{ℕ, ◌+◌, ◌*◌, ◌≤◌, ◌<◌}
-use native.Mathlib.Omega.{arith}
-use mathlib.Core.Path.{◌≡◌, sym, ◌∙◌, ap, subst}
-use mathlib.Core.Logic.{◌⊎◌}
-use mathlib.Core.Option.{Option, some}
-use mathlib.Core.List.{List, [], ◌∷◌, reverse}
-use borrow.Author.Tests.{le-ltb}
-use lib.ListN.{length, take}
-use lib.Seq.{take_all}
+use Rattle.std.proofs.Common.{◌≡◌, sym, ◌∙◌, ap, subst, ℕ, ◌+◌, ◌*◌, ◌≤◌, ◌<◌, arith, ◌⊎◌, List, [], ◌∷◌, reverse, le-ltb, length, take, take_all}
+use Rattle.std.proofs.Math.Option.{Option, some}
 use Rattle.text.specs.Words.{◌>>=◌}
 use Rattle.text.specs.Utf8.{size, encode, decode}
 use Rattle.text.specs.Outcome.{wrote}

@@ -1,9 +1,7 @@
 -- What holds of every line of a page holds of every row of its tree. Q is a fact about what is still to be read, which goes on holding after
 -- each character; P is the fact about a line that follows.
 -- Assumes nothing.
-use Prim.Native.Nat.{ℕ, zero, suc, ◌+◌, ◌≤◌, ◌<◌}
-use native.Mathlib.Omega.{arith}
-use mathlib.Core.List.{List, [], ◌∷◌, ◌++◌}
+use Rattle.std.proofs.Common.{ℕ, zero, suc, ◌+◌, ◌≤◌, ◌<◌, arith, List, [], ◌∷◌, ◌++◌}
 use Rattle.text.specs.Words.{str}
 use Rattle.sheet.specs.Tree.{Run, Mark, Items, Item, cons, items, Block, heading, para, list}
 use Rattle.sheet.specs.Grammar as G
@@ -38,7 +36,7 @@ module _ (Q : List ℕ → Type 0) (tail : (c : ℕ) (s : List ℕ) → Q (c ∷
   past [] s q = q
   past (c ∷ p) s q = past p s (tail c (p ++ s) q)
 
-  nl_kept : {s r : List ℕ} → NL s r → Q s → Q r
+  pub nl_kept : {s r : List ℕ} → NL s r → Q s → Q r
   nl_kept G.no_nl q = q
   nl_kept (G.nl {s}) q = tail 10 s q
 
@@ -57,7 +55,7 @@ module _ (Q : List ℕ → Type 0) (tail : (c : ℕ) (s : List ℕ) → Q (c ∷
   pub run_kept : Kept IsRun
   run_kept _ _ m (is_run {s} k (G.text ms) f) q = past (after k) m (many_kept Char char_kept ms (past (before k) s q))
 
-  line_kept : Kept Line
+  pub line_kept : Kept Line
   line_kept _ _ _ (G.line ms f) q = many_kept IsRun run_kept ms q
 
   then_kept : {A : Type 0} (R : List ℕ → A → List ℕ → Type 0) → Kept R → Kept (ThenNL R)
@@ -66,12 +64,12 @@ module _ (Q : List ℕ → Type 0) (tail : (c : ℕ) (s : List ℕ) → Q (c ∷
   abbrev ListsKept : (List ℕ → Mark → Items → List ℕ → Type 0) → Type 0
   ListsKept L = (s : List ℕ) (m : Mark) (its : Items) (r : List ℕ) → L s m its r → Q s → Q r
 
-  item_kept : (L : List ℕ → Mark → Items → List ℕ → Type 0) → ListsKept L → Kept (IsItem L)
+  pub item_kept : (L : List ℕ → Mark → Items → List ℕ → Type 0) → ListsKept L → Kept (IsItem L)
   item_kept L k _ _ r (is_alone {s} {l = l} ln) q = past (str "</li>") r (line_kept s l (str "</li>" ++ r) ln (past (str "<li>") s q))
   item_kept L k _ _ r (is_with {s} {s₁} {s₂} {s₃} {l = l} {m = m} {its = its} ln a h b) q =
       past (str "</li>") r (nl_kept b (k s₂ m its s₃ h (nl_kept a (line_kept s l s₁ ln (past (str "<li>") s q)))))
 
-  list_kept : (d : ℕ) → ListsKept (IsList d)
+  pub list_kept : (d : ℕ) → ListsKept (IsList d)
   list_kept zero s m its r h q = absurd h
   list_kept (suc d) _ _ _ r (G.is_list {s} m a ms) q =
       past (closes m) r (many_kept (ThenNL (IsItem (IsList d))) (then_kept (IsItem (IsList d)) (item_kept (IsList d) (list_kept d))) ms (nl_kept a (past (opens m) s q)))

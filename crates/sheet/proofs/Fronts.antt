@@ -1,14 +1,11 @@
 -- What a written line starts with, and so what the block reader does not take it for: a heading, a list item, a rule, a row of a table, the
 -- continuation of an item.
 -- Assumes nothing.
-use Prim.Native.Nat.{ℕ}
-use native.Mathlib.Omega.{arith}
-use mathlib.Core.Path.{◌≡◌, refl, sym, ◌∙◌, ap, subst}
-use mathlib.Core.Bool.{Bool, true, false, ◌||◌, and-false}
-use mathlib.Core.Logic.{inl, inr}
-use mathlib.Core.Option.{none}
-use mathlib.Core.List.{List, [], ◌∷◌, ◌++◌, reverse, reverse-reverse}
-use lib.Dec.{eqb}
+use Rattle.std.proofs.Common.{◌≡◌, refl, sym, ◌∙◌, ap, subst, ℕ, arith, Bool, true, false, ◌||◌, inl, List, [], ◌∷◌, ◌++◌, reverse, eqb}
+use Rattle.std.proofs.lemmas.Bool.Decides.{nat_tests}
+use mathlib.Core.Bool.{and-false}
+use Rattle.std.proofs.Math.Option.{none}
+use mathlib.Core.List.{reverse-reverse}
 use Rattle.text.specs.Words.{matches, is_empty, all, starts, drop_while, trim_end_matches}
 use Rattle.text.specs.Chars.{is_space, is_digit, is_letter}
 use Rattle.text.specs.Trim.{trim}
@@ -37,17 +34,17 @@ pub data Front : List ℕ → Type 0 where
   tick_front : {w : List ℕ} → Front (96 ∷ w)
 
 pub front_hash : {s : List ℕ} → Front s → starts "#" s ≡ false
-front_hash (letter_front {x} h) = rw (letter_is_not x h 35 (inl (omega arith)))
+front_hash (letter_front {x} h) = grind (arith, nat_tests)
 front_hash (star_front e) = refl
 front_hash tick_front = refl
 
 pub front_bar : {s : List ℕ} → Front s → starts "|" s ≡ false
-front_bar (letter_front {x} h) = rw (letter_is_not x h 124 (inr (inr (omega arith))))
+front_bar (letter_front {x} h) = grind (arith, nat_tests)
 front_bar (star_front e) = refl
 front_bar tick_front = refl
 
 pub front_blank : {s : List ℕ} → Front s → starts " " s ≡ false
-front_blank (letter_front {x} h) = rw (letter_is_not x h 32 (inl (omega arith)))
+front_blank (letter_front {x} h) = grind (arith, nat_tests)
 front_blank (star_front e) = refl
 front_blank tick_front = refl
 
@@ -67,8 +64,7 @@ abbrev pub bulleted : List ℕ → Bool
 bulleted s = starts "- " s || starts "* " s || starts "+ " s
 
 front_bullet : {s : List ℕ} → Front s → bulleted s ≡ false
-front_bullet (letter_front {x} h) =
-    rw (letter_is_not x h 45 (inl (omega arith)), letter_is_not x h 42 (inl (omega arith)), letter_is_not x h 43 (inl (omega arith)))
+front_bullet (letter_front {x} h) = grind (arith, nat_tests)
 front_bullet (star_front e) = rw e
 front_bullet tick_front = refl
 
@@ -96,15 +92,7 @@ unfolding is_rule
 no_rule w e = simp (e, and-false)
 
 rule_first : (x : ℕ) (s : List ℕ) → Letter x → all ruled (x ∷ s) ≡ false
-rule_first x s h =
-    simp (
-      letter_is_not x h 45 (inl (omega arith)),
-      letter_is_not x h 42 (inl (omega arith)),
-      letter_is_not x h 95 (inr (inl (omega arith))),
-      letter_is_not x h 32 (inl (omega arith)),
-      letter_is_not x h 124 (inr (inr (omega arith))),
-      letter_is_not x h 58 (inl (omega arith)),
-    )
+rule_first x s h = grind (arith, nat_tests)
 
 -- ---- a letter is written as it is
 escaped_first : (x : ℕ) (u : List ℕ) → is_letter x ≡ true → escaped (x ∷ u) ≡ x ∷ escaped u

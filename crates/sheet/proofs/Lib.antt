@@ -40,14 +40,14 @@ mod TestTags
 mod TestMany
 mod TestText
 mod TestCount
-mod TestGist
 mod TestSays
+mod TestGist
 mod TestRuns
 mod TestLine
 mod TestForms
 mod TestItems
-mod TestExamples
 mod TestBlocks
 mod TestPage
+mod TestExamples
 pub mod TestCall
 pub mod Specimens

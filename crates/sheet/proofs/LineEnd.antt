@@ -1,15 +1,14 @@
 -- How a line ends, and what the converter's `newline` and `block` make of that.
 -- Assumes nothing.
-use Prim.Native.Nat.{ℕ}
-use mathlib.Core.Path.{◌≡◌, refl, sym, ◌∙◌, ap, subst}
-use mathlib.Core.Bool.{Bool, true, false, not, ◌||◌, cond}
-use mathlib.Core.List.{List, [], ◌∷◌, ◌++◌, reverse_aux, reverse_aux-append, append-nil}
+use Rattle.std.proofs.Common.{◌≡◌, refl, sym, ◌∙◌, ap, subst, ℕ, Bool, true, false, not, cond, List, [], ◌∷◌, ◌++◌, append-nil, eqb}
+use Rattle.std.proofs.Common.{arith}
+use Rattle.std.proofs.lemmas.Bool.Decides.{nat_tests}
+use mathlib.Core.List.{reverse_aux, reverse_aux-append}
 use borrow.Author.Tests.{not-true}
-use lib.Dec.{eqb}
 use Rattle.text.specs.Words.{str, is, all, drop_while}
 use Rattle.text.specs.Chars.{is_space}
 use Rattle.text.proofs.Tests.{and_true, false_true}
-use Rattle.html.specs.State.{line_start, special, block, newline}
+use Rattle.html.specs.State.{line_start, block, newline}
 use Rattle.html.specs.Page.{loop}
 use Rattle.sheet.specs.Tree.{plain, strong, em, both, code, Run, run}
 use Rattle.sheet.specs.Grammar as G
@@ -41,17 +40,7 @@ pub record Ended (v : List ℕ) : Type 0 where
 
 last_char : (x : ℕ) (o : List ℕ) → eqb x 32 ≡ false → inked x ≡ true → Ended (reverse_aux (shielded x ++ []) o)
 unfolding begins inline
-last_char x o e v = go (special x)
-  where
-    w : is_space x ≡ false
-    w = not-true (is_space x) (ap (λ (b : Bool). b || not (is_space x)) (sym e) ∙ v)
-
-    n : not (eqb x 10) ≡ true
-    n = ap not (not_newline x w)
-
-    go : (b : Bool) → Ended (reverse_aux (cond b (92 ∷ x ∷ []) (x ∷ []) ++ []) o)
-    go true = record { no_space = e; is_inline = n; solid = w }
-    go false = record { no_space = e; is_inline = n; solid = w }
+last_char x o e v = record { no_space = grind (arith, nat_tests); is_inline = let n = not_newline x in grind (arith, nat_tests); solid = grind (arith, nat_tests) }
 
 text_ended : (t o : List ℕ) → all inked t ≡ true → last_is no_blank t ≡ true → Ended (reverse_aux (escaped t) o)
 unfolding last_is escaped
@@ -119,11 +108,7 @@ not_empty h = false_true h.is_inline
 module _ (l : List ℕ) where
   pub newline_st : (x : List ℕ) (b : Bool) → begins 32 x ≡ false → newline (st l x b) ≡ st l (nlx x) false
   unfolding newline
-  newline_st x b e = rw (clean x e, line_start_is x) (go (inline x))
-    where
-      go : (t : Bool) → cond (not t) (st l x false) (st l (10 ∷ x) false) ≡ st l (cond t (10 ∷ x) x) false
-      go true = refl
-      go false = refl
+  newline_st x b e = rw (clean x e, line_start_is x) (grind (arith, nat_tests))
 
   pub block_ended : (v : List ℕ) (b : Bool) → Ended v → block (st l v b) ≡ st l (10 ∷ 10 ∷ v) false
   unfolding block
@@ -144,11 +129,7 @@ start_nlx v = refl
 
 pub start_again : (x : List ℕ) → nlx (nlx x) ≡ nlx x
 unfolding inline begins
-start_again x = go (inline x) refl
-  where
-    go : (b : Bool) → inline x ≡ b → nlx (cond b (10 ∷ x) x) ≡ cond b (10 ∷ x) x
-    go true e = refl
-    go false e = rw e
+start_again x = grind (arith, nat_tests)
 
 pub start_space : (v : List ℕ) → begins 32 (10 ∷ v) ≡ false
 unfolding begins
@@ -159,11 +140,7 @@ unfolding begins
 nothing_begins = refl
 
 pub clean_nlx : (x : List ℕ) → begins 32 x ≡ false → begins 32 (nlx x) ≡ false
-clean_nlx x e = go (inline x)
-  where
-    go : (b : Bool) → begins 32 (cond b (10 ∷ x) x) ≡ false
-    go true = start_space x
-    go false = e
+clean_nlx x e = let s = start_space x in grind (arith, nat_tests)
 
 -- NL? before a tag: only what is pending may change
 pub nl_out : (l o : List ℕ) (b : Bool) {s r r' : List ℕ} → NL s r → r ≡ 60 ∷ r' → (b' : Bool) × (Low o → loop 0 s (st l o b) ≡ loop 0 r (st l o b'))

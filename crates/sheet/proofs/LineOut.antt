@@ -1,12 +1,8 @@
 -- Converting a line of the grammar writes its runs.
 -- Assumes nothing.
-use Prim.Native.Nat.{ℕ}
-use native.Mathlib.Omega.{arith}
-use mathlib.Core.Path.{◌≡◌, refl, sym, ◌∙◌, ap, subst}
-use mathlib.Core.Bool.{Bool, true, false, not, cond, and-false}
-use mathlib.Core.Logic.{inl}
-use mathlib.Core.List.{List, [], ◌∷◌, ◌++◌, reverse_aux, reverse_aux-append, append-nil}
-use lib.Dec.{eqb}
+use Rattle.std.proofs.Common.{◌≡◌, refl, sym, ◌∙◌, ap, subst, ℕ, arith, Bool, true, false, not, cond, inl, List, [], ◌∷◌, ◌++◌, append-nil, eqb}
+use mathlib.Core.Bool.{and-false}
+use mathlib.Core.List.{reverse_aux, reverse_aux-append}
 use Rattle.text.specs.Words.{str}
 use Rattle.text.specs.Chars.{is_space, is_letter}
 use Rattle.text.proofs.Tests.{and_true, false_true}

@@ -1,15 +1,10 @@
 -- Converting a list of the grammar writes its rows; where the limit is reached it stops among the closing tags, with one byte 10 after them.
 -- Assumes nothing.
-use Prim.Native.Nat.{ℕ, zero, suc, ◌+◌, ◌≤◌, ◌<◌}
-use native.Mathlib.Omega.{arith}
-use mathlib.Core.Path.{◌≡◌, refl, sym, ◌∙◌, ap, subst}
-use mathlib.Core.Bool.{Bool, true, false, cond}
-use mathlib.Core.Logic.{◌⊎◌, inl, inr}
-use mathlib.Core.Option.{Option, some}
-use mathlib.Core.List.{List, [], ◌∷◌, ◌++◌, map, reverse_aux, reverse_aux-append, append-nil, append_assoc}
-use borrow.Author.Tests.{ltb-true, ltb-false}
-use lib.Dec.{ltb}
-use lib.ListN.{length}
+use Rattle.std.proofs.Common.{◌≡◌, refl, sym, ◌∙◌, ap, subst, ℕ, zero, suc, ◌+◌, ◌≤◌, ◌<◌, arith, Bool, false, cond, ◌⊎◌, inl, inr, List, [], ◌∷◌, ◌++◌, map}
+use Rattle.std.proofs.Common.{append-nil, append_assoc, length}
+use Rattle.std.proofs.lemmas.Bool.Decides.{nat_tests}
+use Rattle.std.proofs.Math.Option.{Option, some}
+use mathlib.Core.List.{reverse_aux, reverse_aux-append}
 use Rattle.text.specs.Words.{str, repeat, is_empty}
 use Rattle.text.specs.Utf8.{size}
 use Rattle.text.specs.Decimal.{decimal}
@@ -23,7 +18,7 @@ use Rattle.sheet.specs.Grammar.{NL, Many, stop, more, ThenNL, IsItem, is_alone, 
 use Rattle.sheet.specs.Written.{written_runs, Row, item, place, rows_from, lead, written_row, joined}
 use Rattle.sheet.proofs.Turns.{Low, low_front, low_tail}
 use Rattle.sheet.proofs.Tags.{st, loop_ul, loop_ul/, loop_ol, loop_ol/, loop_li, loop_li/}
-use Rattle.sheet.proofs.TextOut.{begins, inline}
+use Rattle.sheet.proofs.TextOut.{begins}
 use Rattle.sheet.proofs.RunOut.{Tail, tag, nl_tag}
 use Rattle.sheet.proofs.LineEnd.{Ended, line_done, nlx, newline_st, block_newline, inline_nlx, start_nlx, start_again, start_space, nothing_begins, clean_nlx, nl_out}
 
@@ -36,11 +31,7 @@ pub record Stopped (x : Option State) (v : List ℕ) : Type 0 where
 
 pub decide_low : (v : List ℕ) → Low v ⊎ (16000 ≤ size v)
 unfolding Low
-decide_low v = go (ltb (size v) 16000) refl
-  where
-    go : (b : Bool) → ltb (size v) 16000 ≡ b → (size v < 16000) ⊎ (16000 ≤ size v)
-    go true e = inl (ltb-true (size v) 16000 e)
-    go false e = inr (ltb-false (size v) 16000 e)
+decide_low v = grind (arith, nat_tests)
 
 pub never_stopped : {A : Type 0} {x : Option State} {v : List ℕ} → Low (10 ∷ v) → Stopped x v → A
 unfolding Low
@@ -53,11 +44,7 @@ stopped_as : {x : Option State} {v w : List ℕ} → v ≡ w → Stopped x v →
 stopped_as {x} e z = subst (Stopped x) e z
 
 low_nlx : (x : List ℕ) → Low (nlx x) → Low x
-low_nlx x = go (inline x)
-  where
-    go : (b : Bool) → Low (cond b (10 ∷ x) x) → Low x
-    go true h = low_tail 10 x h
-    go false h = h
+low_nlx x h = let t = low_tail 10 x in grind (arith, nat_tests)
 
 -- the rows of a list, last first, from the start of a line
 unfoldable pub rowsr : List Row → List ℕ → List ℕ

@@ -1,12 +1,10 @@
 -- Converting a sheet's page writes its written form; one byte 10 or two follow it.
 -- Assumes nothing.
-use Prim.Native.Nat.{ℕ, ◌≤◌, min}
-use native.Mathlib.Omega.{arith}
-use mathlib.Core.Path.{◌≡◌, refl, sym, ◌∙◌, ap, subst}
-use mathlib.Core.Bool.{Bool, true, false, not, ◌&&◌, cond}
-use mathlib.Core.Logic.{◌⊎◌, inl, inr}
-use mathlib.Core.Option.{Option, some}
-use mathlib.Core.List.{List, [], ◌∷◌, ◌++◌, reverse, reverse_aux, reverse_aux-append, append-nil}
+use Rattle.std.proofs.Common.{◌≡◌, refl, sym, ◌∙◌, ap, subst, ℕ, ◌≤◌, min, arith, Bool, false, not, cond, ◌⊎◌, inl, inr, List, [], ◌∷◌, ◌++◌, reverse}
+use Rattle.std.proofs.Common.{append-nil}
+use Rattle.std.proofs.lemmas.Bool.Decides.{nat_tests}
+use Rattle.std.proofs.Math.Option.{Option, some}
+use mathlib.Core.List.{reverse_aux, reverse_aux-append}
 use Rattle.text.specs.Words.{str, repeat, is_empty, drop_while, index}
 use Rattle.text.specs.Utf8.{size}
 use Rattle.html.specs.State.{State, new, push_str, line_start, block}
@@ -51,11 +49,7 @@ block_gap (a ∷ w) = refl
 
 ended_empty : (v : List ℕ) → Ended v → is_empty v ≡ false
 unfolding inline
-ended_empty v h = go (is_empty v) h.is_inline
-  where
-    go : (b : Bool) → (not b && not (begins 10 v)) ≡ true → b ≡ false
-    go true e = sym e
-    go false e = refl
+ended_empty v h = let i = h.is_inline in grind (arith, nat_tests)
 
 pub full_gap : (v : List ℕ) → Ended v → 10 ∷ 10 ∷ v ≡ gap v
 full_gap v h = sym (rw (ended_empty v h))

@@ -1,13 +1,11 @@
 -- Reading one line of a sheet's written form: a paragraph, a heading, an item.
 -- Assumes nothing.
-use Prim.Native.Nat.{ℕ, zero, suc, ◌*◌, ◌/◌, ◌≤◌, min}
-use native.Mathlib.Omega.{arith}
-use mathlib.Core.Path.{◌≡◌, refl, sym, ◌∙◌, ap}
-use mathlib.Core.Bool.{true, false}
-use mathlib.Core.Option.{some}
-use mathlib.Core.List.{List, [], ◌∷◌, ◌++◌, reverse, append_assoc, reverse-append}
-use borrow.Author.Tests.{ne_eqb, le-leb}
-use lib.ListN.{length, length-reverse}
+use Rattle.std.proofs.Common.{◌≡◌, refl, sym, ◌∙◌, ap, ℕ, zero, suc, ◌*◌, ◌/◌, ◌≤◌, min, arith, true, false, List, [], ◌∷◌, ◌++◌, reverse, append_assoc, le-leb}
+use Rattle.std.proofs.Common.{length}
+use Rattle.std.proofs.lemmas.Bool.Decides.{nat_tests}
+use Rattle.std.proofs.Math.Option.{some}
+use mathlib.Core.List.{reverse-append}
+use lib.ListN.{length-reverse}
 use Rattle.text.specs.Words.{str, repeat, is, is_empty, all, starts, take_while, drop_while, trim_end_matches}
 use Rattle.text.specs.Chars.{is_space, is_digit}
 use Rattle.text.specs.Trim.{trim}
@@ -144,12 +142,12 @@ read_dash b d w g =
 take_digits : (s t : List ℕ) → all is_digit s ≡ true → take_while is_digit (s ++ (46 ∷ t)) ≡ s
 unfolding take_while
 take_digits [] t e = refl
-take_digits (a ∷ s) t e = let f = and_true (is_digit a) (all is_digit s) e in rw (f.0, take_digits s t f.1)
+take_digits (a ∷ s) t e = let i = take_digits s t in grind (arith, nat_tests)
 
 drop_digits : (s t : List ℕ) → all is_digit s ≡ true → drop_while is_digit (s ++ (46 ∷ t)) ≡ 46 ∷ t
 unfolding drop_while
 drop_digits [] t e = refl
-drop_digits (a ∷ s) t e = let f = and_true (is_digit a) (all is_digit s) e in rw f.0 (drop_digits s t f.1)
+drop_digits (a ∷ s) t e = let i = drop_digits s t in grind (arith, nat_tests)
 
 -- it starts with a digit
 record Number (s : List ℕ) : Type 0 where
@@ -167,7 +165,7 @@ number (a ∷ s) h e =
 
 -- and so with no mark of another kind
 digit_bullet : (a : ℕ) (w : List ℕ) → 48 ≤ a → bulleted (a ∷ w) ≡ false
-digit_bullet a w h = rw (ne_eqb a 45 (λ e. omega arith), ne_eqb a 42 (λ e. omega arith), ne_eqb a 43 (λ e. omega arith))
+digit_bullet a w h = grind (arith, nat_tests)
 
 number_bullet : (s w : List ℕ) → Number s → bulleted (s ++ w) ≡ false
 number_bullet s w n = ap (λ (s : List ℕ). bulleted (s ++ w)) n.is_first ∙ digit_bullet n.first (n.others ++ w) n.low
@@ -179,7 +177,7 @@ marked_number i ds w a lo hi g =
     rw (number_bullet ds (46 ∷ 32 ∷ w) (number ds lo a), drop_digits ds (32 ∷ w) a, take_digits ds (32 ∷ w) a, within_is 1 9 (length ds) lo hi, good_trim w g)
 
 no_hash_digit : (a : ℕ) (w : List ℕ) → 48 ≤ a → starts "#" (a ∷ w) ≡ false
-no_hash_digit a w h = rw (ne_eqb a 35 (λ e. omega arith))
+no_hash_digit a w h = grind (arith, nat_tests)
 
 number_listed : (ds w : List ℕ) → Number ds → Good w → Listed (ds ++ (46 ∷ 32 ∷ w))
 number_listed ds w n g =

@@ -1,10 +1,6 @@
 -- A sheet's page is not much longer than its written form: each byte written stands for at most 41 of the page.
 -- Assumes nothing.
-use Prim.Native.Nat.{ℕ, zero, suc, ◌+◌, ◌*◌, ◌≤◌, min}
-use native.Mathlib.Omega.{arith}
-use mathlib.Core.Path.{◌≡◌, ◌∙◌, ap}
-use mathlib.Core.Bool.{true}
-use mathlib.Core.List.{List, [], ◌∷◌, ◌++◌, map}
+use Rattle.std.proofs.Common.{◌≡◌, ◌∙◌, ap, ℕ, zero, suc, ◌+◌, ◌*◌, ◌≤◌, min, arith, true, List, [], ◌∷◌, ◌++◌, map}
 use Rattle.text.specs.Words.{str}
 use Rattle.text.specs.Chars.{is_letter}
 use Rattle.text.specs.Utf8.{utf8, size}
@@ -110,7 +106,7 @@ record ListSize (s : List ℕ) (m : Mark) (its : Items) (r : List ℕ) (d : ℕ)
 abbrev ListsSize : (List ℕ → Mark → Items → List ℕ → Type 0) → Type 0
 ListsSize L = (s : List ℕ) (m : Mark) (its : Items) (r : List ℕ) → L s m its r → (d : ℕ) → ListSize s m its r d
 
-opens_size : (m : Mark) (s : List ℕ) → size (opens m ++ s) ≡ size s + 4
+pub opens_size : (m : Mark) (s : List ℕ) → size (opens m ++ s) ≡ size s + 4
 unfolding size utf8
 opens_size ul s = omega arith
 opens_size ol s = omega arith
@@ -120,7 +116,7 @@ unfolding size utf8
 closes_size ul s = omega arith
 closes_size ol s = omega arith
 
-li_size : (s : List ℕ) → size (str "<li>" ++ s) ≡ size s + 4
+pub li_size : (s : List ℕ) → size (str "<li>" ++ s) ≡ size s + 4
 unfolding size utf8
 li_size s = omega arith
 

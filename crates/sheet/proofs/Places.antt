@@ -1,9 +1,6 @@
 -- The place of an item in a written form of fewer than 16,000 bytes has at most nine digits.
 -- Assumes nothing.
-use Prim.Native.Nat.{ℕ, suc, ◌+◌, ◌≤◌, ◌<◌}
-use native.Mathlib.Omega.{arith}
-use mathlib.Core.List.{List, [], ◌∷◌, ◌++◌, map}
-use lib.ListN.{length, length-append}
+use Rattle.std.proofs.Common.{ℕ, suc, ◌+◌, ◌≤◌, ◌<◌, arith, List, [], ◌∷◌, ◌++◌, map, length, length-append}
 use Rattle.text.specs.Words.{str}
 use Rattle.text.specs.Utf8.{size}
 use Rattle.text.specs.Decimal.{decimal}

@@ -1,10 +1,7 @@
 -- Reading the lines of a written form gives the blocks of its tree.
 -- Assumes nothing.
-use Prim.Native.Nat.{ℕ, zero, suc, ◌≤◌, min}
-use native.Mathlib.Omega.{arith}
-use mathlib.Core.Path.{◌≡◌, refl, sym, ◌∙◌, ap}
-use mathlib.Core.List.{List, [], ◌∷◌, ◌++◌, map, reverse, reverse_aux, append-nil, append_assoc, reverse_aux-append, reverse-reverse}
-use lib.ListN.{length}
+use Rattle.std.proofs.Common.{◌≡◌, refl, sym, ◌∙◌, ap, ℕ, zero, suc, ◌≤◌, min, arith, List, [], ◌∷◌, ◌++◌, map, reverse, append-nil, append_assoc, length}
+use mathlib.Core.List.{reverse_aux, reverse_aux-append, reverse-reverse}
 use Rattle.text.specs.Words.{str, repeat}
 use Rattle.text.specs.Decimal.{decimal}
 use Rattle.records.specs.Blocks as B

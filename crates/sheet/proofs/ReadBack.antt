@@ -1,15 +1,12 @@
 -- Reading a written line gives its runs' spans. Between two texts stand k stars: k / 2 turns of bold, then k % 2 turns of italic, and only
 -- where two runs with italic touch does that not end the one and begin the other.
 -- Assumes nothing.
-use Prim.Native.Nat.{ℕ, suc}
-use native.Mathlib.Omega.{arith}
-use native.Mathlib.Numerals.{add-one}
-use mathlib.Core.Path.{◌≡◌, refl, sym, ◌∙◌, ap, subst}
-use mathlib.Core.Bool.{Bool, true, false, cond, not, ◌&&◌}
-use mathlib.Core.Logic.{◌⊎◌, inl, inr}
-use mathlib.Core.Option.{some}
-use mathlib.Core.List.{List, [], ◌∷◌, ◌++◌, map, reverse, reverse_aux, append-nil, append_assoc, reverse-reverse}
-use lib.ListN.{length, length-reverse}
+use Rattle.std.proofs.Common.{◌≡◌, refl, sym, ◌∙◌, ap, subst, ℕ, suc, arith, add-one, Bool, true, false, cond, not, ◌&&◌, ◌⊎◌, inl, inr, List, [], ◌∷◌, ◌++◌, map}
+use Rattle.std.proofs.Common.{reverse, append-nil, append_assoc, length}
+use Rattle.std.proofs.lemmas.Bool.Decides.{nat_tests}
+use Rattle.std.proofs.Math.Option.{some}
+use mathlib.Core.List.{reverse_aux, reverse-reverse}
+use lib.ListN.{length-reverse}
 use lib.Seq.{take-append_seam, append_snoc}
 use borrow.Author.Tests.{not-true}
 use Rattle.text.specs.Words.{starts, index, find}
@@ -35,17 +32,14 @@ no_escape : (u : List ℕ) → none_of special u ≡ true → escaped u ≡ u
 unfolding escaped
 no_escape [] e = refl
 no_escape (b ∷ u) e =
-    let f = and_true (not (special b)) (none_of special u) e in
-    rw (not-true (special b) f.0, no_escape u f.1)
+    let h : special b ≡ false = grind (arith, nat_tests) in
+    let i = no_escape u (grind (arith, nat_tests)) in
+    rw (h, i)
 
 -- what a text that is not empty starts with is no star
 no_star : (b : ℕ) (u s : List ℕ) → starts "*" (escaped (b ∷ u) ++ s) ≡ false
 unfolding escaped
-no_star b u s = go (special b) refl
-  where
-    go : (x : Bool) → special b ≡ x → starts "*" ((cond x (92 ∷ b ∷ []) (b ∷ []) ++ escaped u) ++ s) ≡ false
-    go true e = refl
-    go false e = rw (ordinary b e).no_star
+no_star b u s = let o = ordinary b in grind (arith, nat_tests)
 
 unfoldable pub all_fit : List Run → Bool
 all_fit [] = true

@@ -1,11 +1,8 @@
 -- A sheet with each kind of block and run, worked out: its tree is read from the page, its written form is as document 01 has it, and that is
 -- read as the tree's blocks, by the theorem and by computing.
 -- Assumes nothing.
-use Prim.Native.Nat.{ℕ, ◌<◌}
-use native.Mathlib.Omega.{arith}
-use mathlib.Core.Path.{◌≡◌, refl}
-use mathlib.Core.Option.{some}
-use mathlib.Core.List.{List, [], ◌∷◌}
+use Rattle.std.proofs.Common.{◌≡◌, refl, ℕ, ◌<◌, arith, List, [], ◌∷◌}
+use Rattle.std.proofs.Math.Option.{some}
 use Rattle.text.specs.Words.{str, index, take_while, drop_while, trim_end_matches}
 use Rattle.text.specs.Chars.{is_space, is_control}
 use Rattle.text.specs.Utf8.{utf8, size}

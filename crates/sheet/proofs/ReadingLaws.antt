@@ -1,14 +1,7 @@
 -- The laws of what the reader is made of: a step that answers, the first answer that is there, a prefix taken off, and a reader used again and again.
 -- Assumes nothing.
-use Prim.Native.Nat.{ℕ, zero, suc}
-use native.Mathlib.Omega.{arith}
-use mathlib.Core.Path.{◌≡◌, refl}
-use mathlib.Core.Bool.{Bool, true, false}
-use mathlib.Core.Logic.{◌⊎◌, inl, inr}
-use mathlib.Core.Option.{Option, none, some}
-use mathlib.Core.List.{List, [], ◌∷◌, ◌++◌}
-use borrow.Author.Tests.{eqb-true, eq-eqb}
-use lib.Dec.{eqb}
+use Rattle.std.proofs.Common.{◌≡◌, refl, ℕ, zero, suc, arith, Bool, true, false, ◌⊎◌, inl, inr, List, [], ◌∷◌, ◌++◌, eqb-true, eq-eqb, eqb}
+use Rattle.std.proofs.Math.Option.{Option, none, some}
 use Rattle.sheet.specs.Reading.{◌<|>◌, strip, many}
 use Rattle.text.specs.Words.{◌>>=◌, ensure}
 use Rattle.sheet.specs.Reader.{Answer}
@@ -29,6 +22,10 @@ alt_left o p e = rw e
 
 pub alt_right : {A : Type 0} (o p : Option A) → o ≡ none → (o <|> p) ≡ p
 alt_right o p e = rw e
+
+pub alt_assoc : {A : Type 0} (o p q : Option A) → ((o <|> p) <|> q) ≡ (o <|> (p <|> q))
+alt_assoc none p q = refl
+alt_assoc (some x) p q = refl
 
 pub strip_inv : (p s : List ℕ) {r : List ℕ} → strip p s ≡ some r → s ≡ p ++ r
 strip_inv [] s e = cc

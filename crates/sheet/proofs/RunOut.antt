@@ -1,15 +1,13 @@
 -- Converting a run, its tags and its text, writes its written form.
 -- Assumes nothing.
-use Prim.Native.Nat.{ℕ}
-use mathlib.Core.Path.{◌≡◌, refl, sym, ◌∙◌, ap, subst}
-use mathlib.Core.Bool.{Bool, true, false, not}
-use mathlib.Core.List.{List, [], ◌∷◌, ◌++◌, reverse_aux, reverse_aux-append}
+use Rattle.std.proofs.Common.{◌≡◌, refl, sym, ◌∙◌, ap, subst, ℕ, Bool, true, false, not, List, [], ◌∷◌, ◌++◌}
+use Rattle.std.proofs.Common.{arith}
+use Rattle.std.proofs.lemmas.Bool.Decides.{nat_tests}
+use mathlib.Core.List.{reverse_aux, reverse_aux-append}
 use Prim.Native.String.{String}
-use lib.Dec.{eqb}
 use lib.Seq.{append_snoc}
 use Rattle.text.specs.Words.{str, is}
 use Rattle.text.specs.Chars.{is_space}
-use Rattle.text.proofs.Tests.{and_true}
 use Rattle.reference.specs.Unescape.{unescape, unescaped}
 use Rattle.html.specs.State.{State, push_str, line_start, spaced, marks, ends_with_digit, blank, paused, next, put_all, text}
 use Rattle.html.specs.Page.{words, loop}
@@ -32,7 +30,7 @@ pub data Tail : List ℕ → Type 0 where
 
 no_tag_nl : (u : List ℕ) → none_of (is "<") u ≡ true → none_of (is "<") (u ++ (10 ∷ [])) ≡ true
 no_tag_nl [] e = refl
-no_tag_nl (a ∷ u) e = let f = and_true (not (eqb a 60)) (none_of (is "<") u) e in rw f.0 (no_tag_nl u f.1)
+no_tag_nl (a ∷ u) e = let i = no_tag_nl u in grind (arith, nat_tests)
 
 -- byte 10 changes only what is pending
 nl_put : (l o : List ℕ) (b : Bool) → put_all true (10 ∷ []) (st l o b) ≡ words (10 ∷ []) (st l o b)

@@ -1,8 +1,6 @@
 -- Demand 3, the reader's half: a sheet's written form is read as its tree's blocks.
 -- Assumes nothing.
-use Prim.Native.Nat.{ℕ, ◌<◌}
-use mathlib.Core.Path.{◌≡◌}
-use mathlib.Core.List.{List}
+use Rattle.std.proofs.Common.{◌≡◌, ℕ, ◌<◌, List}
 use Rattle.text.specs.Utf8.{size}
 use Rattle.markdown.specs.Blocks.{blocks}
 use Rattle.sheet.specs.Tree.{Block}

@@ -1,11 +1,6 @@
 -- The records of a sheet's tree are at most eleven times as long as its written form. (One letter in a paragraph takes eleven bytes.)
 -- Assumes nothing.
-use Prim.Native.Nat.{ℕ, zero, suc, ◌+◌, ◌*◌, ◌≤◌, min}
-use native.Mathlib.Omega.{arith}
-use mathlib.Core.Path.{◌≡◌, refl, ap}
-use mathlib.Core.Bool.{true}
-use mathlib.Core.List.{List, [], ◌∷◌, ◌++◌, map}
-use lib.ListN.{length, length-append}
+use Rattle.std.proofs.Common.{◌≡◌, refl, ap, ℕ, zero, suc, ◌+◌, ◌*◌, ◌≤◌, min, arith, true, List, [], ◌∷◌, ◌++◌, map, length, length-append}
 use Rattle.text.specs.Words.{str}
 use Rattle.text.specs.Utf8.{utf8, encode, size}
 use Rattle.text.specs.Decimal.{decimal}

@@ -1,15 +1,10 @@
 -- The texts of a sheet, and its written form, are scalar values if the page is.
 -- Assumes nothing.
-use Prim.Native.Nat.{ℕ, min}
-use native.Mathlib.Omega.{arith}
-use mathlib.Core.Path.{◌≡◌, refl}
-use mathlib.Core.Bool.{true}
-use mathlib.Core.Logic.{inl}
-use mathlib.Core.List.{List, [], ◌∷◌, ◌++◌, map}
+use Rattle.std.proofs.Common.{◌≡◌, refl, ℕ, min, arith, true, List, [], ◌∷◌, ◌++◌, map}
+use Rattle.std.proofs.lemmas.Bool.Decides.{nat_tests}
 use Rattle.text.specs.Words.{str, all}
 use Rattle.text.specs.Chars.{is_scalar, is_digit}
 use Rattle.text.specs.Utf8.{Scalars}
-use Rattle.text.proofs.Tests.{within_true}
 use Rattle.text.proofs.Laws.{scalar_is, scalars_true}
 use Rattle.sheet.specs.Tree.{Run, run, Block}
 use Rattle.sheet.specs.Grammar as G
@@ -56,7 +51,8 @@ page_texts = page_lines Scalars rest Texts line_texts
 
 -- ---- the written form
 digit_scalar : (c : ℕ) → is_digit c ≡ true → is_scalar c ≡ true
-digit_scalar c e = let f = within_true 48 57 c e in scalar_is c (inl (omega arith))
+unfolding is_scalar
+digit_scalar c e = grind (arith, nat_tests)
 
 scalar_marks : Marks is_scalar
 unfolding is_scalar

@@ -1,9 +1,6 @@
 -- Every block of a sheet's tree has a record: it is read from the written form, and the blocks of every Markdown text have records.
 -- Assumes nothing.
-use Prim.Native.Nat.{ℕ, ◌<◌}
-use native.Mathlib.Omega.{arith}
-use mathlib.Core.Path.{subst}
-use mathlib.Core.List.{List}
+use Rattle.std.proofs.Common.{subst, ℕ, ◌<◌, arith, List}
 use Rattle.text.specs.Utf8.{Scalars, size}
 use Rattle.records.specs.Format.{WfBlocks}
 use Rattle.markdown.proofs.Wf.{blocks_wf}

@@ -1,12 +1,7 @@
 -- What the reader reads is in the grammar.
 -- Assumes nothing.
-use Prim.Native.Nat.{ℕ, zero, suc, ◌+◌, ◌-◌, ◌≤◌}
-use native.Mathlib.Omega.{arith}
-use mathlib.Core.Path.{◌≡◌, refl, sym, ◌∙◌, ap, subst}
-use mathlib.Core.Logic.{⊎_elim}
-use mathlib.Core.Option.{Option, none, some}
-use mathlib.Core.List.{List, [], ◌∷◌, ◌++◌}
-use lib.ListN.{length}
+use Rattle.std.proofs.Common.{◌≡◌, refl, sym, ◌∙◌, ap, subst, ℕ, zero, suc, ◌+◌, ◌-◌, ◌≤◌, arith, ⊎_elim, List, [], ◌∷◌, ◌++◌, length}
+use Rattle.std.proofs.Math.Option.{Option, none, some}
 use Rattle.text.specs.Words.{str, ◌>>=◌, case}
 use Rattle.sheet.specs.Reading.{◌<|>◌, strip, many}
 use Rattle.sheet.specs.Tree.{Kind, plain, strong, em, both, code, Run, Mark, ul, ol, Items, Item, alone, items, Block, list}
@@ -93,7 +88,7 @@ run_sound s y e =
     let t = subst (Text k.0.1 (text k.0.1).0) (strip_inv (after k.0.0) (text k.0.1).1 a.1) (text_sound k.0.1) in
     gives IsRun a.2 (from IsRun (kind_inv s k.0 k.1) (is_run k.0.0 t g.0))
 
-line_sound : Sound Line line
+pub line_sound : Sound Line line
 unfolding line
 line_sound s y e =
     let g = ensure_inv (neat (many one_run (length s) s).0) _ e in

@@ -1,11 +1,10 @@
 -- What a sheet's text is in the page: the references in it, and its single spaces.
 -- Assumes nothing.
-use Prim.Native.Nat.{ℕ}
-use mathlib.Core.Path.{◌≡◌, refl, sym, ◌∙◌, ap}
-use mathlib.Core.Bool.{Bool, true, false, not, ◌&&◌, ◌||◌, cond, or-true}
-use mathlib.Core.List.{List, [], ◌∷◌, ◌++◌, append_assoc}
+use Rattle.std.proofs.Common.{◌≡◌, refl, sym, ◌∙◌, ap, ℕ, true, false, List, [], ◌∷◌, ◌++◌, append_assoc, eqb}
+use Rattle.std.proofs.Common.{arith}
+use Rattle.std.proofs.lemmas.Bool.Decides.{nat_tests}
+use mathlib.Core.Bool.{or-true}
 use borrow.Author.Tests.{not-true}
-use lib.Dec.{eqb}
 use Rattle.text.specs.Words.{str, is, all, index}
 use Rattle.text.specs.Chars.{is_space}
 use Rattle.text.specs.Utf8.{utf8, size}
@@ -104,28 +103,15 @@ pub inked_text : {s r : List ℕ} {qs : List (List ℕ)} → Many Char s qs r �
 inked_text stop = refl
 inked_text (more {x = q} {xs = qs} c m) = all_append inked q (concat qs) (inked_char c) (inked_text m)
 
-and_intro : (a b : Bool) → a ≡ true → b ≡ true → (a && b) ≡ true
-and_intro a b e f = rw (e, f)
-
-not_both : (a b p : Bool) → not (b && a) ≡ true → (a || p) ≡ true → cond a (not b) p ≡ true
-not_both true true p h g = h
-not_both true false p h g = refl
-not_both false b p h g = g
-
 singly_after : (x : ℕ) (t : List ℕ) → singles (x ∷ t) ≡ true → all inked t ≡ true → singly (eqb x 32) t ≡ true
 unfolding singly singles
 singly_after x [] s v = refl
-singly_after x (y ∷ t) s v =
-    let s' = and_true (not (eqb x 32 && eqb y 32)) (singles (y ∷ t)) s in
-    let v' = and_true (inked y) (all inked t) v in
-    and_intro (cond (eqb y 32) (not (eqb x 32)) (not (is_space y))) (singly (eqb y 32) t) (not_both (eqb y 32) (eqb x 32) (not (is_space y)) s'.0 v'.0) (singly_after y t s'.1 v'.1)
+singly_after x (y ∷ t) s v = let i = singly_after y t in grind (arith, nat_tests)
 
 singly_of : (t : List ℕ) → singles t ≡ true → all inked t ≡ true → singly false t ≡ true
 unfolding singly
 singly_of [] s v = refl
-singly_of (y ∷ t) s v =
-    let v' = and_true (inked y) (all inked t) v in
-    and_intro (cond (eqb y 32) true (not (is_space y))) (singly (eqb y 32) t) (not_both (eqb y 32) false (not (is_space y)) refl v'.0) (singly_after y t s v'.1)
+singly_of (y ∷ t) s v = let i = singly_after y t in grind (arith, nat_tests)
 
 -- what a run's text is known to be
 pub record Known (s t r : List ℕ) : Type 0 where

@@ -1,10 +1,7 @@
 -- Document 01's specimens marked P: one list, and one theorem about the definitions that the contracts cite, by computation.
 -- Assumes nothing.
-use Prim.Native.Nat.{ℕ}
+use Rattle.std.proofs.Common.{◌≡◌, refl, ℕ, Bool, true, false, List, [], ◌∷◌, map}
 use Prim.Native.String.{String}
-use mathlib.Core.Path.{◌≡◌, refl}
-use mathlib.Core.Bool.{Bool, true, false}
-use mathlib.Core.List.{List, [], ◌∷◌, map}
 use Rattle.text.specs.Words.{case, str, index, take_while, drop_while, trim_end_matches}
 use Rattle.text.specs.Chars.{is_space, is_control, is_scalar}
 use Rattle.text.specs.Utf8.{size, utf8, encode, starts3, starts4, char_of, char, scan, chars, is_utf8, decode}

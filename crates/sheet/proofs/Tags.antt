@@ -1,13 +1,9 @@
 -- What the converter's loop does at each tag of a sheet, in a state in which nothing is skipped.
 -- Assumes nothing.
-use Prim.Native.Nat.{ℕ, zero, suc, ◌+◌, ◌-◌, ◌≤◌, ◌<◌, min}
-use native.Mathlib.Omega.{arith}
-use mathlib.Core.Path.{◌≡◌, refl, ◌∙◌, ap}
-use mathlib.Core.Bool.{Bool, true, false}
-use mathlib.Core.Option.{none}
-use mathlib.Core.List.{List, ◌∷◌, ◌++◌, tail}
+use Rattle.std.proofs.Common.{◌≡◌, refl, ◌∙◌, ap, ℕ, zero, suc, ◌+◌, ◌-◌, ◌≤◌, ◌<◌, min, arith, Bool, true, false, List, ◌∷◌, ◌++◌, length}
+use Rattle.std.proofs.Math.Option.{none}
+use mathlib.Core.List.{tail}
 use borrow.Author.Tests.{lt-leb}
-use lib.ListN.{length}
 use Rattle.text.specs.Words.{str, repeat, index, take_while, drop_while, trim_end_matches}
 use Rattle.text.specs.Chars.{is_space}
 use Rattle.reference.specs.Unescape.{unescape}

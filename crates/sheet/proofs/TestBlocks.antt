@@ -1,38 +1,31 @@
 -- Blocks: what the reader's answers are made of, and their counts.
 -- Assumes nothing.
-use Prim.Native.Nat.{ℕ, suc, ◌+◌, ◌-◌, ◌≤◌, ◌<◌, min}
-use native.Mathlib.Omega.{arith}
-use mathlib.Core.Path.{◌≡◌, refl, sym, ◌∙◌, ap, subst}
-use mathlib.Core.Bool.{Bool, true, false}
-use mathlib.Core.Option.{none, some}
-use mathlib.Core.Logic.{⊎_elim}
-use mathlib.Core.List.{List, [], ◌∷◌, ◌++◌, append-nil, append_assoc, map}
-use borrow.Author.Tests.{lt-ltb, ltb-true, ltb-false}
-use lib.Dec.{ltb}
-use lib.ListN.{length, get_or, length-append}
-use Rattle.text.specs.Words.{all, str, repeat, ◌>>=◌}
+use Rattle.std.proofs.Common.{◌≡◌, refl, sym, ◌∙◌, ap, subst, ℕ, suc, ◌+◌, ◌-◌, ◌≤◌, ◌<◌, min, arith, Bool, true, false, ◌||◌, ⊎_elim, List, [], ◌∷◌, ◌++◌, append-nil}
+use Rattle.std.proofs.Common.{append_assoc, map, le-leb, ltb-true, ltb-false, ltb, length, length-append, Option as Maybe, Some}
+use Rattle.std.proofs.lemmas.Bool.Decides.{nat_tests}
+use Rattle.std.proofs.Math.Option.{none, some}
+use Rattle.text.specs.Words.{str, repeat, ◌>>=◌}
 use Rattle.text.specs.Chars.{within, is_ascii}
-use Rattle.text.specs.Utf8.{utf8, code_at}
-use Rattle.text.proofs.Tests.{within_true, decide}
-use Rattle.text.proofs.Laws.{turn_is, advance_end}
-use Rattle.text.proofs.Utf8.{utf8_1}
+use Rattle.text.specs.Utf8.{chars}
+use Rattle.text.proofs.Tests.{decide}
+use Rattle.text.proofs.Laws.{chars_nil}
+use Rattle.text.proofs.AsciiLaws.{chars_ascii, chars_high}
 use Rattle.sheet.specs.Reading.{◌<|>◌, strip}
 use Rattle.sheet.specs.Tree.{Run, Mark, Items, end, leaf, node, alone, with, Block, heading, para, list}
 use Rattle.sheet.specs.Grammar.{closes_h, is_list, IsList}
 use Rattle.sheet.specs.Reader.{Answer, line, read_list, digit, closed_by, headed, read_heading, read_para, list_of, block}
 use Rattle.sheet.specs.Written.{Row, rows_from, rows, written_runs, written_row, joined}
 use Rattle.sheet.specs.Weight.{weight, alike, added}
-use Rattle.sheet.specs.Says.{from, Says}
+use Rattle.sheet.specs.Says.{Says, Weighs}
 use Rattle.sheet.specs.Forms.{led_rows, list_form, led, block_form}
 use Rattle.sheet.proofs.ReadingLaws.{strip_inv}
 use Rattle.sheet.proofs.Sound.{read_list_sound}
 use Rattle.sheet.specs.declared.count.Count.{Count}
-use Rattle.sheet.specs.declared.count.Read.{Read}
-use Rattle.sheet.specs.declared.count.Read.TheVariants.{At, No}
+use Rattle.sheet.specs.declared.reading.Read.{Read}
 use Rattle.sheet.proofs.AllChars.{all_append, all_hashes}
 use Rattle.sheet.proofs.PageRead.{length_hashes}
 use Rattle.sheet.proofs.TestCount.{ascii_marks, weight_append, weight_ascii}
-use Rattle.sheet.proofs.TestSays.{Got, answers, refuses}
+use Rattle.sheet.proofs.TestSays.{Got, answers, says_as}
 
 -- ---- a line and the tag after it
 module _ (q s : List ℕ) where
@@ -57,16 +50,7 @@ led_weight n l =
 pub led_count : (n : ℕ) (l : List Run) {a b c : Count} → a ≡ alike n → b ≡ weight (written_runs l) → c ≡ added a b → c ≡ weight (led n l)
 led_count n l e f g = g ∙ cc (e, f) ∙ sym (led_weight n l)
 
--- what was read, seen as another thing whose written form counts the same
-says_as : {A B : Type 0} (f : A → List ℕ) (g : B → List ℕ) (b : A → B) → ((x : A) → weight (f x) ≡ weight (g (b x))) → (page : List ℕ) (at : ℕ) (o : Answer A) (r : Read)
-    → Says f page at o r → Says g page at (o >>= λ x. some (b x.0, x.1)) r
-says_as f g b e page at none r h = h
-says_as f g b e page at (some x) r h = (h.0, h.1 ∙ ap (At h.0) (e x.0), h.2)
-
 -- ---- a heading
-pub close_ascii : (n : ℕ) → n ≤ 6 → all is_ascii (60 ∷ 47 ∷ 104 ∷ (48 + n) ∷ 62 ∷ []) ≡ true
-close_ascii n h = rw (lt-ltb (48 + n) 0x80 (omega arith))
-
 heading_weight : (n : ℕ) (l : List Run) → weight (led (min n 3 + 3) l) ≡ weight (block_form (heading n l))
 unfolding rows joined
 heading_weight n l =
@@ -78,53 +62,48 @@ heading_weight n l =
     led_weight (min n 3 + 3) l ∙ ap (λ (w : Count). added w (weight (written_runs l))) (sym q) ∙ sym (weight_append p (written_runs l))
     ∙ ap weight (ap (λ (m : List ℕ). str "\n\n" ++ m) (append_assoc (repeat (min n 3) "#") (str " ") (written_runs l)))
 
-says_later : {A : Type 0} (form : A → List ℕ) (page : List ℕ) (at start : ℕ) (o : Answer A) (r : Read) → at ≤ start → Says form page start o r → Says form page at o r
-says_later form page at start none r l h = h
-says_later form page at start (some x) r l h = (h.0, h.1, record { starts = h.2.starts; later = let p = h.2.later in omega arith; within = h.2.within })
-
-pub heading_in : (page : List ℕ) (at : ℕ) {r : Bool} → r ≡ within 49 54 (code_at page at) → r ≡ true → (49 ≤ code_at page at) × (code_at page at ≤ 54) × (at < length page)
-unfolding code_at
-heading_in page at e f =
-    let h = within_true 49 54 (code_at page at) (sym e ∙ f) in
-    (h.0, h.1, ⊎_elim (λ l. ltb-true at (length page) l) (λ l. absurd (past h.0 (ltb-false at (length page) l))) (decide (ltb at (length page))))
-  where
-    past : 49 ≤ code_at page at → length page ≤ at → ⊥
-    past h l = let z = ap (λ (s : List ℕ). get_or s 0 0) (advance_end page at l) in omega arith
-
-module _ (page : List ℕ) (at : ℕ) {t : Bool} (e : t ≡ within 49 54 (code_at page at)) where
-  no_digit : t ≡ false → digit (from page at) ≡ none
-  no_digit f =
-      let h : within 49 54 (code_at page at) ≡ false = sym e ∙ f in
-      ⊎_elim (λ l. rw ((turn_is page at (ltb-true at (length page) l)).rest, h)) (λ l. rw (advance_end page at (ltb-false at (length page) l))) (decide (ltb at (length page)))
-
-  pub headed_1 : t ≡ false → headed (from page at) ≡ none
+module _ (b : ℕ) (r : List ℕ) where
+  pub no_heading : ltb b 49 || ltb 54 b ≡ true → headed (chars (b ∷ r)) ≡ none
   unfolding headed
-  headed_1 f = rw (no_digit f)
+  no_heading h = ⊎_elim (λ l. low (ltb-true b 0x80 l)) (λ l. high (ltb-false b 0x80 l)) (decide (ltb b 0x80))
+    where
+      low : b < 0x80 → headed (chars (b ∷ r)) ≡ none
+      low l = let n : within 49 54 b ≡ false = grind (arith, nat_tests) in rw (chars_ascii b r l, n)
 
-  module _ (f : t ≡ true) {c : ℕ} (g : c ≡ code_at page at) where
-    after_digit : digit (from page at) ≡ some (c - 48, from page (at + 1))
+      high : 0x80 ≤ b → headed (chars (b ∷ r)) ≡ none
+      high l =
+          let y = chars_high b r l in
+          let n : within 49 54 y.0 ≡ false = let k = y.3 in grind (arith, nat_tests) in
+          rw (y.2, n)
+
+  module _ (h : ltb b 49 || ltb 54 b ≡ false) where
+    pub heading_digit : (49 ≤ b) × (b ≤ 54)
+    heading_digit = (grind (arith, nat_tests), grind (arith, nat_tests))
+
+    after_digit : digit (chars (b ∷ r)) ≡ some (b - 48, chars r)
     after_digit =
-        let h : within 49 54 (code_at page at) ≡ true = sym e ∙ f in
-        let i = heading_in page at e f in
-        let z : at + length (utf8 (code_at page at)) ≡ at + 1 = omega (arith, ap length (utf8_1 (code_at page at) (omega arith))) in
-        let s : from page at ≡ code_at page at ∷ from page (at + 1) = (turn_is page at i.2).rest ∙ ap (λ (k : ℕ). code_at page at ∷ from page k) z in
-        rw (s, h) (ap (λ (k : ℕ). some (k - 48, from page (at + 1))) (sym g))
+        let n = heading_digit in
+        rw (chars_ascii b r (omega (arith, n.1)), le-leb 49 b n.0, le-leb b 54 n.1)
 
-    pub headed_2 : strip (str ">") (from page (at + 1)) ≡ none → headed (from page at) ≡ none
+    pub headed_none : strip (str ">") (chars r) ≡ none → headed (chars (b ∷ r)) ≡ none
     unfolding headed
-    headed_2 h = rw (after_digit, h)
+    headed_none e = rw (after_digit, e)
 
-    pub headed_3 : strip (str ">") (from page (at + 1)) ≡ some (from page (at + 1 + 1)) → {k : ℕ} → k ≡ min (c - 48) 3 → (r : Read)
-        → Says (led (k + 3)) page (at + 2) (closed_by (closes_h (c - 48)) (from page (at + 2))) r → Says block_form page at (headed (from page at)) r
+    pub headed_some : {s₁ : List ℕ} → strip (str ">") (chars r) ≡ some s₁ → {k : ℕ} → k ≡ min (b - 48) 3 → (t : Maybe (Read Count))
+        → Says (Weighs (led (k + 3))) (closed_by (60 ∷ 47 ∷ 104 ∷ b ∷ 62 ∷ []) s₁) t → Says (Weighs block_form) (headed (chars (b ∷ r))) t
     unfolding headed
-    headed_3 h {k} m r s =
-        let n = c - 48 in
-        let o : Answer (List Run) = closed_by (closes_h n) (from page (at + 2)) in
-        let z : at + 1 + 1 ≡ at + 2 = omega arith in
-        let is : headed (from page at) ≡ (o >>= λ x. some (heading n x.0, x.1)) = rw (after_digit, h, z) in
-        subst (λ (o : Answer Block). Says block_form page at o r) (sym is)
-        (says_later block_form page at (at + 2) (o >>= λ x. some (heading n x.0, x.1)) r (omega arith)
-        (says_as (led (min n 3 + 3)) block_form (heading n) (heading_weight n) page (at + 2) o r (rw m at s)))
+    headed_some {s₁} e {k} f t h =
+        let n = heading_digit in
+        let z : b ≡ 48 + (b - 48) = omega (arith, n.0) in
+        let tag : closes_h (b - 48) ≡ 60 ∷ 47 ∷ 104 ∷ b ∷ 62 ∷ [] = ap (λ (b : ℕ). 60 ∷ 47 ∷ 104 ∷ b ∷ 62 ∷ []) (sym z) in
+        let is : headed (chars (b ∷ r)) ≡ (closed_by (60 ∷ 47 ∷ 104 ∷ b ∷ 62 ∷ []) s₁ >>= λ x. some (heading (b - 48) x.0, x.1)) = rw (after_digit, e, tag) in
+        subst (λ (o : Answer Block). Says (Weighs block_form) o t) (sym is)
+        (says_as (Weighs (led (k + 3))) (Weighs block_form) (heading (b - 48)) (λ x y w. w ∙ ap (λ (k : ℕ). weight (led (k + 3) x)) f ∙ heading_weight (b - 48) x) _ t h)
+
+pub no_heading_end : (s : List ℕ) → length s ≡ 0 → headed (chars s) ≡ none
+unfolding headed
+no_heading_end [] e = rw chars_nil
+no_heading_end (b ∷ s) e = absurd (omega arith)
 
 -- ---- a paragraph
 para_weight : (l : List Run) → weight (led 2 l) ≡ weight (block_form (para l))
@@ -164,10 +143,7 @@ list_weight x h {a} {b} {c} e f g =
     g ∙ cc (e ∙ sym (weight_ascii (str "\n") refl), f) ∙ sym (weight_append (str "\n") (list_form 0 x)) ∙ ap (λ (l : List ℕ). weight (str "\n" ++ l)) z
 
 -- ---- a block
-module _ (page : List ℕ) (at : ℕ) where
-  abbrev s : List ℕ
-  s = from page at
-
+module _ (s : List ℕ) where
   abbrev listed : Answer Block
   listed = read_list 8 s >>= λ x. some (list x.0.0 x.0.1, x.1)
 
@@ -176,7 +152,7 @@ module _ (page : List ℕ) (at : ℕ) where
   alt_none (some x) = refl
 
   -- no two of the three begin alike
-  by_heading : {s₁ : List ℕ} → strip (str "<h") s ≡ some s₁ → block s ≡ headed s₁
+  pub by_heading : {s₁ : List ℕ} → strip (str "<h") s ≡ some s₁ → block s ≡ headed s₁
   unfolding block read_heading read_para read_list list_of
   by_heading {s₁} e = ap block (strip_inv (str "<h") s e) ∙ alt_none (headed s₁)
 
@@ -184,26 +160,19 @@ module _ (page : List ℕ) (at : ℕ) where
   unfolding block read_heading read_para read_list list_of
   by_para {s₁} e = ap block (strip_inv (str "<p>") s e) ∙ alt_none (closed_by (str "</p>") s₁ >>= λ x. some (para x.0, x.1))
 
-  pub block_1 : strip (str "<h") s ≡ some (from page (at + 2)) → (r : Read) → Says block_form page (at + 2) (headed (from page (at + 2))) r → Says block_form page at (block s) r
-  block_1 e r h =
-      subst (λ (o : Answer Block). Says block_form page at o r) (sym (by_heading e))
-      (says_later block_form page at (at + 2) (headed (from page (at + 2))) r (omega arith) h)
-
-  pub block_2 : strip (str "<p>") s ≡ some (from page (at + 3)) → (r : Read) → Says (led 2) page (at + 3) (closed_by (str "</p>") (from page (at + 3))) r → Says block_form page at (block s) r
-  block_2 e r h =
-      let o : Answer (List Run) = closed_by (str "</p>") (from page (at + 3)) in
-      subst (λ (o : Answer Block). Says block_form page at o r) (sym (by_para e))
-      (says_later block_form page at (at + 3) (o >>= λ x. some (para x.0, x.1)) r (omega arith) (says_as (led 2) block_form para para_weight page (at + 3) o r h))
+  pub block_para : {s₁ : List ℕ} → strip (str "<p>") s ≡ some s₁ → (t : Maybe (Read Count)) → Says (Weighs (led 2)) (closed_by (str "</p>") s₁) t → Says (Weighs block_form) (block s) t
+  block_para e t h =
+      subst (λ (o : Answer Block). Says (Weighs block_form) o t) (sym (by_para e)) (says_as (Weighs (led 2)) (Weighs block_form) para (λ x y w. w ∙ para_weight x) _ t h)
 
   module _ (e : strip (str "<h") s ≡ none) (f : strip (str "<p>") s ≡ none) where
     block_list : block s ≡ listed
     unfolding block read_heading read_para
     block_list = rw (e, f)
 
-    pub block_3 : read_list 8 s ≡ none → Says block_form page at (block s) No
-    block_3 h = refuses block_form page at (block s) (block_list ∙ rw h)
+    pub block_none : read_list 8 s ≡ none → block s ≡ none
+    block_none h = block_list ∙ rw h
 
-    pub block_4 : {n : ℕ} {a w c : Count} → Got (list_form 0) page at (read_list 8 s) n w → a ≡ alike 1 → c ≡ added a w → Says block_form page at (block s) (At n c)
-    block_4 {n} {a} {w} {c} g k m =
-        let x = g.what in
-        answers block_form page at (block s) (block_list ∙ rw g.is) (list_weight x (list_filled s (x, from page n) g.is) k g.count m) g.later g.within
+    pub block_some : {v : Read Count} {a c : Count} → Got (Weighs (list_form 0)) (read_list 8 s) v → a ≡ alike 1 → c ≡ added a v.value →
+        Says (Weighs block_form) (block s) (Some (record { value = c; rest = v.rest }))
+    block_some {v} g k m =
+        answers (Weighs block_form) _ (block_list ∙ rw g.is) (list_weight g.what (list_filled s (g.what, chars v.rest.now) g.is) k g.value m)

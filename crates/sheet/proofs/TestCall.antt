@@ -1,13 +1,7 @@
 -- What the sheet test says yes to, by the grammar of document 01.
 -- Assumes nothing.
-use Prim.Native.Nat.{ℕ}
-use native.Mathlib.Omega.{arith}
-use mathlib.Core.Path.{◌≡◌, refl, sym, ◌∙◌, ap}
-use mathlib.Core.Bool.{true}
-use mathlib.Core.Option.{Option, none, some}
-use mathlib.Core.Logic.{◌↔◌}
-use mathlib.Core.List.{List}
-use lib.ListN.{length}
+use Rattle.std.proofs.Common.{◌≡◌, refl, sym, ◌∙◌, ap, ℕ, arith, true, ◌↔◌, List, length}
+use Rattle.std.proofs.Math.Option.{Option, none, some}
 use Rattle.text.specs.Words.{case}
 use Rattle.text.specs.Utf8.{Scalars, size, encode, decode}
 use Rattle.text.proofs.Tests.{then_some}

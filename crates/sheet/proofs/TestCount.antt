@@ -1,16 +1,10 @@
 -- Counts of texts put together.
 -- Assumes nothing.
-use Prim.Native.Nat.{ℕ}
-use native.Mathlib.Omega.{arith}
-use mathlib.Core.Path.{◌≡◌, refl}
-use mathlib.Core.Bool.{true}
-use mathlib.Core.List.{List, ◌++◌}
-use borrow.Author.Tests.{lt-ltb}
-use lib.ListN.{length, length-append}
+use Rattle.std.proofs.Common.{◌≡◌, refl, ℕ, arith, true, List, ◌++◌, length, length-append}
+use Rattle.std.proofs.lemmas.Bool.Decides.{nat_tests}
 use Rattle.text.specs.Utf8.{size}
 use Rattle.text.specs.Words.{all}
 use Rattle.text.specs.Chars.{is_digit, is_ascii}
-use Rattle.text.proofs.Tests.{within_true}
 use Rattle.text.proofs.Laws.{size_append}
 use Rattle.text.proofs.AsciiLaws as A
 use Rattle.sheet.specs.declared.count.Count.{Count}
@@ -19,7 +13,7 @@ use Rattle.sheet.proofs.AllChars.{Marks}
 
 -- what is written besides texts is ASCII
 ascii_digit : (c : ℕ) → is_digit c ≡ true → is_ascii c ≡ true
-ascii_digit c e = lt-ltb c 0x80 (let f = within_true 48 57 c e in omega (arith, f.1))
+ascii_digit c e = grind (arith, nat_tests)
 
 pub ascii_marks : Marks is_ascii
 ascii_marks =

@@ -1,8 +1,7 @@
 -- The sheet test on pages written out: the definition computes document 01's answers.
 -- Assumes nothing.
 use Prim.Native.String.{String}
-use mathlib.Core.Path.{◌≡◌, refl}
-use mathlib.Core.List.{List, [], ◌∷◌, map}
+use Rattle.std.proofs.Common.{◌≡◌, refl, List, [], ◌∷◌, map}
 use Rattle.text.specs.Words.{str}
 use Rattle.text.specs.Chars.{is_scalar, is_space, is_control}
 use Rattle.text.specs.Utf8.{utf8, size, starts3, starts4, char_of, char as utf8_char, scan, chars, is_utf8, decode}

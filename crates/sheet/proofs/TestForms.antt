@@ -1,10 +1,7 @@
 -- Counts of the written forms.
 -- Assumes nothing.
-use Prim.Native.Nat.{ℕ, zero, suc, ◌+◌, ◌*◌, ◌/◌, ◌%◌, ◌≤◌, ◌<◌, min}
-use native.Mathlib.Omega.{arith}
-use mathlib.Core.Path.{◌≡◌, refl, sym, ◌∙◌, ap}
-use mathlib.Core.List.{List, [], ◌∷◌, ◌++◌, append-nil, append_assoc}
-use lib.ListN.{length, length-append}
+use Rattle.std.proofs.Common.{◌≡◌, refl, sym, ◌∙◌, ap, ℕ, zero, suc, ◌+◌, ◌*◌, ◌/◌, ◌%◌, ◌^◌, ◌≤◌, ◌<◌, arith, Option as Maybe, Some, None, MatchOption, IfNone, IfSome}
+use Rattle.std.proofs.Common.{unwrap_or, pow-suc, List, [], ◌∷◌, ◌++◌, append-nil, append_assoc, length, length-append}
 use Rattle.text.specs.Words.{str, repeat}
 use Rattle.text.specs.Chars.{is_ascii}
 use Rattle.text.specs.Decimal.{decimal}
@@ -14,7 +11,7 @@ use Rattle.sheet.specs.Written.{Row, item, place, rows_from, lead, written_runs,
 use Rattle.sheet.specs.Weight.{weight, alike, added}
 use Rattle.sheet.specs.Forms.{led_rows, item_form, list_form, row_lead}
 use Rattle.sheet.specs.declared.count.Count.{Count}
-use Rattle.sheet.proofs.TestCount.{ascii_marks, counts, weight_append, weight_ascii}
+use Rattle.sheet.proofs.TestCount.{ascii_marks, weight_append, weight_ascii}
 use Rattle.sheet.proofs.AllChars.{all_append, all_blanks, all_lead}
 
 -- ---- what stands before an item's line
@@ -28,14 +25,36 @@ row_lead_weight d n =
     ∙ ap (λ (k : ℕ). alike (suc k)) (length-append (repeat d "  ") (lead n) ∙ ap (λ (k : ℕ). k + length (lead n)) (indent_length d))
     ∙ ap alike (omega arith)
 
-pub lead_none : (d n : ℕ) → n ≡ 0 → {r : Count} → r ≡ alike (3 + d * 2) → r ≡ weight (row_lead d n)
-lead_none d n e {r} h = h ∙ ap alike (omega arith) ∙ sym (row_lead_weight d 0) ∙ ap (λ (n : ℕ). weight (row_lead d n)) (sym e)
+-- ---- how many digits
+digit_count : (k n : ℕ) → 10 ^ k ≤ n → n < 10 * 10 ^ k → length (decimal n) ≡ suc k
+digit_count zero n l h = ap length (decimal_small n (omega arith))
+digit_count (suc k) n l h =
+    let p : 10 ^ suc k ≡ 10 * 10 ^ k = rw pow-suc (omega arith) in
+    let ih = digit_count k (n / 10) (omega arith) (omega arith) in
+    omega (arith, ap length (decimal_large n (omega arith)), length-append (decimal (n / 10)) ((48 + n % 10) ∷ []))
 
-pub lead_some : (d n : ℕ) → (n ≡ 0 → ⊥) → {k m : ℕ} {r : Count} → k ≡ length (decimal n) → m ≡ min (k + (3 + d * 2)) 20000 → r ≡ alike m → r ≡ weight (row_lead d n)
-lead_some d zero z e f h = absurd (z refl)
-lead_some d (suc n) z {k} {m} {r} e f h =
-    let l = length-append (decimal (suc n)) (str ". ") in
-    h ∙ counts (omega arith) (omega arith) ∙ sym (row_lead_weight d (suc n))
+-- `- ` before an item with no place, and else the place and `. `
+one_le : (k : ℕ) → 1 ≤ 10 ^ k
+one_le zero = omega arith
+one_le (suc k) = let h = one_le k in rw pow-suc (omega arith)
+
+-- what the logarithm says of a number, which has none where it is 0
+abbrev pub IsLog : ℕ → Maybe ℕ → Type 0
+IsLog n o = IfNone o (n ≡ 0) × IfSome o (λ k. 10 ^ k ≤ n) × IfSome o (λ k. n < 10 * 10 ^ k)
+
+lead_length : (o p : Maybe ℕ) (m : ℕ) → MatchOption o (p ≡ None) (λ n. IsLog n p) → MatchOption p (m ≡ 2) (λ k. m ≡ k + 3) → length (lead (unwrap_or o 0)) ≡ m
+lead_length None p m h e = go p h e
+  where
+    go : (p : Maybe ℕ) → p ≡ None → MatchOption p (m ≡ 2) (λ k. m ≡ k + 3) → 2 ≡ m
+    go None h e = sym e
+    go (Some k) h e = cc
+lead_length (Some n) None m h e = rw (h.0, e)
+lead_length (Some zero) (Some k) m h e = absurd (omega (arith, one_le k, h.1))
+lead_length (Some (suc n)) (Some k) m h e = omega (arith, length-append (decimal (suc n)) (str ". "), digit_count k (suc n) h.1 h.2)
+
+pub lead_weight : (d : ℕ) (o p : Maybe ℕ) (m : ℕ) {r : Count} → MatchOption o (p ≡ None) (λ n. IsLog n p) → MatchOption p (m ≡ 2) (λ k. m ≡ k + 3)
+    → r ≡ alike (1 + d * 2 + m) → r ≡ weight (row_lead d (unwrap_or o 0))
+lead_weight d o p m h e f = f ∙ ap alike (omega (arith, lead_length o p m h e)) ∙ sym (row_lead_weight d (unwrap_or o 0))
 
 -- ---- rows
 pub led_append : (xs ys : List Row) → led_rows (xs ++ ys) ≡ led_rows xs ++ led_rows ys
@@ -78,10 +97,3 @@ module _ (d n : ℕ) (l : List Run) {a b c : Count} (e : a ≡ weight (row_lead 
   unfolding item_form list_form led_rows
   with_weight d' z x {s} {t} h k =
       k ∙ cc (own, h, ap (λ (d : ℕ). weight (led_rows (rows_from d x.0 1 x.1))) z) ∙ sym (weight_append (str "\n" ++ written_row (item d n l)) (led_rows (rows_from (suc d) x.0 1 x.1)))
-
--- ---- how many digits: what is left of the number has as many as were not counted
-pub digit_less : (n m k : ℕ) → k + length (decimal m) ≡ length (decimal n) + 1 → 10 ≤ m → k + 1 + length (decimal (m / 10)) ≡ length (decimal n) + 1
-digit_less n m k e h = omega (arith, ap length (decimal_large m h), length-append (decimal (m / 10)) ((48 + m % 10) ∷ []))
-
-pub digit_last : (n m k : ℕ) → k + length (decimal m) ≡ length (decimal n) + 1 → m < 10 → k ≡ length (decimal n)
-digit_last n m k e h = omega (arith, ap length (decimal_small m h))

@@ -1,32 +1,28 @@
 -- Items and lists: what the reader's answers are made of, and the loop over a list's items.
 -- Assumes nothing.
-use Prim.Native.Nat.{ℕ, zero, suc, ◌+◌, ◌-◌, ◌≤◌}
-use native.Mathlib.Omega.{arith}
-use mathlib.Core.Path.{◌≡◌, refl, sym, ◌∙◌, ap, subst}
-use mathlib.Core.Bool.{Bool, true, false}
-use mathlib.Core.Option.{none, some}
-use mathlib.Core.List.{List, [], ◌∷◌, ◌++◌}
-use lib.ListN.{length, length-append}
+use Rattle.std.proofs.Common.{◌≡◌, refl, sym, ◌∙◌, ap, ℕ, suc, ◌+◌, ◌≤◌, ◌<◌, arith, le_refl, List, [], ◌∷◌, ◌++◌, length, length-append}
+use Rattle.std.proofs.Math.Option.{none, some}
 use Rattle.text.specs.Words.{str, ◌>>=◌}
-use Rattle.text.specs.Utf8.{size}
+use Rattle.text.specs.Utf8.{size, chars}
 use Rattle.sheet.specs.Reading.{◌<|>◌, strip}
 use Rattle.sheet.specs.Tree.{Run, Mark, ul, ol, Items, Item, alone, with, items}
-use Rattle.sheet.specs.Grammar.{opens, closes}
+use Rattle.sheet.specs.Grammar.{IsList, closes, opens}
 use Rattle.sheet.specs.Reader.{Answer, nl?, line, then_nl, item, some_items, marked, list_of, read_list}
 use Rattle.sheet.specs.Written.{place, rows_from}
 use Rattle.sheet.specs.Weight.{weight, alike, added}
-use Rattle.sheet.specs.Says.{from, Says, Tagged, Skipped}
-use Rattle.sheet.specs.Forms.{led_rows, item_form, list_form, mark_of, Begun}
-use Rattle.sheet.proofs.Sound.{marked_inv}
+use Rattle.sheet.specs.Says.{Weighs}
+use Rattle.sheet.specs.Forms.{led_rows, item_form, list_form, mark_of, IsMark}
+use Rattle.sheet.proofs.ReadingLaws.{strip_inv}
+use Rattle.sheet.proofs.Sound.{marked_inv, nl_sound, line_sound, item_sound, read_list_sound}
+use Rattle.sheet.proofs.EachLine.{nl_kept, line_kept, item_kept, list_kept}
+use Rattle.sheet.proofs.PageSize.{li_size, opens_size}
 use Rattle.sheet.proofs.Shrinks.{nl_shrinks, items_shrink}
 use Rattle.sheet.specs.declared.count.Count.{Count}
-use Rattle.sheet.specs.declared.count.Read.TheVariants.{At}
-use Rattle.sheet.specs.declared.list.Opening.{Opening}
-use Rattle.sheet.specs.declared.list.Opening.TheVariants as O
-use Rattle.sheet.proofs.TestTags.{Stands, is_tag}
+use Rattle.sheet.specs.declared.reading.Read.{Read}
+use Rattle.sheet.specs.declared.list.Mark as M
 use Rattle.sheet.proofs.TestCount.{weight_append}
 use Rattle.sheet.proofs.TestMany.{every, many_every, ReadTo, to_none, to_more, to_stop}
-use Rattle.sheet.proofs.TestSays.{Got, answers}
+use Rattle.sheet.proofs.TestSays.{Got}
 use Rattle.sheet.proofs.TestForms.{rows_snoc}
 
 -- ---- an item
@@ -45,130 +41,110 @@ module _ (read : List ℕ → Answer (Mark × Items)) (s : List ℕ) where
       unfolding item
       item_3 g = rw (e, f, g)
 
-      module _ (g : strip (str "</li>") s₂ ≡ none) (s₃ : List ℕ) (h : nl? s₂ ≡ s₃) where
+      module _ (g : strip (str "</li>") s₂ ≡ none) (s₃ : List ℕ) (h : s₃ ≡ nl? s₂) where
         pub item_4 : read s₃ ≡ none → item read s ≡ none
         unfolding item
-        item_4 i = rw (e, f, g, h, i)
+        item_4 i = rw (e, f, g, ← h, i)
 
-        module _ (x : Mark × Items) (s₄ s₅ : List ℕ) (i : read s₃ ≡ some (x, s₄)) (j : nl? s₄ ≡ s₅) where
+        module _ (x : Mark × Items) (s₄ s₅ : List ℕ) (i : read s₃ ≡ some (x, s₄)) (j : s₅ ≡ nl? s₄) where
           pub item_5 : {r : List ℕ} → strip (str "</li>") s₅ ≡ some r → item read s ≡ some (with l x.0 x.1, r)
           unfolding item
-          item_5 k = rw (e, f, g, h, i, j, k)
+          item_5 k = rw (e, f, g, ← h, i, ← j, k)
 
           pub item_6 : strip (str "</li>") s₅ ≡ none → item read s ≡ none
           unfolding item
-          item_6 k = rw (e, f, g, h, i, j, k)
+          item_6 k = rw (e, f, g, ← h, i, ← j, k)
 
--- ---- the opening tag of a list
-pub record Began (page : List ℕ) (at : ℕ) (b : Bool) : Type 0 where
-  pub is : (marked ul (from page at) <|> marked ol (from page at)) ≡ some (mark_of b, from page (at + 4))
-  pub within : at + 4 ≤ length page
+-- ---- what is left has fewer bytes
+module _ (n : ℕ) where
+  abbrev AtMost : List ℕ → Type 0
+  AtMost s = size s ≤ n
 
-module _ (page : List ℕ) (at : ℕ) where
-  abbrev begin : Answer Mark
-  begin = marked ul (from page at) <|> marked ol (from page at)
+  at_most_tail : (c : ℕ) (s : List ℕ) → AtMost (c ∷ s) → AtMost s
+  unfolding size
+  at_most_tail c s h = omega arith
 
-  begins : (b : Bool) → begin ≡ some (mark_of b, from page (at + 4)) → at + 4 ≤ length page → Begun page at begin (O.List b)
-  begins b e w = subst (λ (o : Answer Mark). Begun page at o (O.List b)) (sym e) (b, refl, refl, w)
+line_bytes : (s : List ℕ) {l : List Run} {r : List ℕ} → line s ≡ some (l, r) → size r ≤ size s
+line_bytes s {l} {r} e = line_kept (AtMost (size s)) (at_most_tail (size s)) s l r (line_sound s (l, r) e) (le_refl (size s))
 
-  pub begin_1 : Stands (str "<ul>") page at → Begun page at begin (O.List false)
-  begin_1 t = begins false (rw t.off) (t.inside (omega arith))
+nl_bytes : (s : List ℕ) → size (nl? s) ≤ size s
+nl_bytes s = nl_kept (AtMost (size s)) (at_most_tail (size s)) (nl_sound s) (le_refl (size s))
 
-  module _ (e : strip (str "<ul>") (from page at) ≡ none) where
-    pub begin_2 : Stands (str "<ol>") page at → Begun page at begin (O.List true)
-    begin_2 t = begins true (rw (e, t.off)) (t.inside (omega arith))
+item_bytes : (v : ℕ) (s : List ℕ) {x : Item} {r : List ℕ} → item (read_list v) s ≡ some (x, r) → size r ≤ size s
+item_bytes v s {x} {r} e =
+    item_kept (AtMost (size s)) (at_most_tail (size s)) (IsList v) (list_kept (AtMost (size s)) (at_most_tail (size s)) v) s x r
+    (item_sound (IsList v) (read_list v) (read_list_sound v) s (x, r) e) (le_refl (size s))
 
-    pub begin_3 : strip (str "<ol>") (from page at) ≡ none → Begun page at begin O.No
-    begin_3 f = let z : begin ≡ none = rw (e, f) in subst (λ (o : Answer Mark). Begun page at o O.No) (sym z) refl
+-- the list in an item begins behind the item's line
+pub list_behind : (s : List ℕ) {s₁ s₂ s₃ : List ℕ} {l : List Run} → strip (str "<li>") s ≡ some s₁ → line s₁ ≡ some (l, s₂) → s₃ ≡ nl? s₂ → size s₃ < size s
+list_behind s {s₁} {s₂} {s₃} {l} e f g = omega (arith, ap size (strip_inv (str "<li>") s e), li_size s₁, line_bytes s₁ f, ap size g, nl_bytes s₂)
 
-  no_begin : (o : Answer Mark) {r : Opening} → Begun page at o r → r ≡ O.No → o ≡ none
-  no_begin none h e = refl
-  no_begin (some x) h e = let q = h.1 in let z : ◌≡◌ {A = ℕ} 0 1 = cc in absurd (omega arith)
+-- ---- the tags of a list
+-- the opening tag, as a function's proof has it
+pub begun : (s : List ℕ) {v : Read M.Mark} → Got IsMark (marked ul s <|> marked ol s) v → (marked ul s <|> marked ol s) ≡ some (mark_of v.value, chars v.rest.now)
+begun s {v} g = g.is ∙ ap (λ (m : Mark). some (m, chars v.rest.now)) g.value
 
-  pub begun_no : {r : Opening} → Begun page at begin r → r ≡ O.No → begin ≡ none
-  begun_no h e = no_begin begin h e
-
-  pub begun_at : {r : Opening} {b : Bool} → Begun page at begin r → r ≡ O.List b → Began page at b
-  begun_at {r} {b} h e = go begin refl h
-    where
-      go : (o : Answer Mark) → begin ≡ o → Begun page at o r → Began page at b
-      go none f h = let z : ◌≡◌ {A = ℕ} 0 1 = cc in absurd (omega arith)
-      go (some x) f h =
-          let q = h.1 in
-          let w : h.0 ≡ b = cc in
-          record { is = f ∙ ap some h.2 ∙ ap (λ (b : Bool). some (mark_of b, from page (at + 4))) w; within = h.3 }
+pub items_behind : (s : List ℕ) {s₁ s₂ : List ℕ} {m : Mark} → (marked ul s <|> marked ol s) ≡ some (m, s₁) → s₂ ≡ nl? s₁ → size s₂ < size s
+items_behind s {s₁} {s₂} {m} e f = omega (arith, ap size (marked_inv s (m, s₁) e), opens_size m s₁, ap size f, nl_bytes s₁)
 
 -- ---- the loop over the items
-pub record ItemsTo (v d : ℕ) (m : Mark) (page : List ℕ) (start pos n : ℕ) (w : Count) : Type 0 where
+pub record ItemsTo (v d : ℕ) (m : Mark) (s t : List ℕ) (n : ℕ) (w : Count) : Type 0 where
   pub read : List Item
-  pub to : ReadTo (then_nl (item (read_list v))) (from page start) read (from page pos)
+  pub to : ReadTo (then_nl (item (read_list v))) s read t
   pub kept : w ≡ weight (led_rows (rows_from d m 1 (items read)))
   pub many : n ≡ length read
-  pub later : start + n ≤ pos
-  pub within : pos ≤ length page
+  pub later : length t + n ≤ length s
+  pub fewer : size t ≤ size s
 
-module _ (v d : ℕ) (m : Mark) (page : List ℕ) (start : ℕ) where
-  pub items_none : {w : Count} → w ≡ alike 0 → start ≤ length page → ItemsTo v d m page start start 0 w
+module _ (v d : ℕ) (m : Mark) where
+  pub items_none : (s : List ℕ) {w : Count} → w ≡ alike 0 → ItemsTo v d m s s 0 w
   unfolding weight size led_rows rows_from
-  items_none {w} e h = record { read = []; to = to_none (then_nl (item (read_list v))) (from page start); kept = e; many = refl; later = omega arith; within = h }
+  items_none s {w} e = record { read = []; to = to_none (then_nl (item (read_list v))) s; kept = e; many = refl; later = omega arith; fewer = le_refl (size s) }
 
-  pub items_next : {pos n : ℕ} {w : Count} → ItemsTo v d m page start pos n w → {p next : ℕ} {a b : Count} {pos' : ℕ} → p ≡ place m (n + 1)
-      → Got (item_form d p) page pos (item (read_list v) (from page pos)) next a → Skipped page next pos' → b ≡ added w a → ItemsTo v d m page start pos' (n + 1) b
-  items_next {pos} {n} {w} s {p} {next} {a} {b} {pos'} e g k f =
+  -- what an item and NL? after it leave is shorter
+  pub item_shrinks : (t : List ℕ) {t' : List ℕ} {x : Item} {r : List ℕ} → item (read_list v) t ≡ some (x, r) → t' ≡ nl? r → length t' < length t
+  item_shrinks t {t'} {x} {r} e k = items_shrink v t (x, t') (rw (e, k))
+
+  pub items_next : {s t : List ℕ} {n : ℕ} {w : Count} → ItemsTo v d m s t n w → {p : ℕ} {r : Read Count} {b : Count} {t' : List ℕ} → p ≡ place m (n + 1)
+      → Got (Weighs (item_form d p)) (item (read_list v) t) r → t' ≡ nl? (chars r.rest.now) → b ≡ added w r.value → ItemsTo v d m s t' (n + 1) b
+  items_next {s} {t} {n} {w} i {p} {r} {b} {t'} e g k f =
       let x = g.what in
-      let xs = s.read in
-      let q : p ≡ place m (length xs + 1) = e ∙ ap (λ (n : ℕ). place m (n + 1)) s.many in
+      let xs = i.read in
+      let q : p ≡ place m (length xs + 1) = e ∙ ap (λ (n : ℕ). place m (n + 1)) i.many in
       let c : b ≡ added (weight (led_rows (rows_from d m 1 (items xs)))) (weight (item_form d (place m (length xs + 1)) x)) =
-      f ∙ cc (s.kept, g.count, ap (λ (p : ℕ). weight (item_form d p x)) q) in
-      let l₁ = s.later in
-      let l₂ = g.later in
-      let l₃ = k.later in
-      let l₄ = s.many in
+      f ∙ cc (i.kept, g.value, ap (λ (p : ℕ). weight (item_form d p x)) q) in
       record {
         read = xs ++ (x ∷ []);
-        to = to_more (then_nl (item (read_list v))) (items_shrink v) s.to (rw (g.is, k.rest));
+        to = to_more (then_nl (item (read_list v))) (items_shrink v) i.to (rw (g.is, k));
         kept = c ∙ sym (weight_append (led_rows (rows_from d m 1 (items xs))) (item_form d (place m (length xs + 1)) x)) ∙ ap weight (sym (rows_snoc d m 1 xs x));
-        many = omega (arith, length-append xs (x ∷ []));
-        later = omega arith;
-        within = k.within g.within;
+        many = omega (arith, i.many, length-append xs (x ∷ []));
+        later = omega (arith, i.later, item_shrinks t g.is k);
+        fewer = omega (arith, i.fewer, item_bytes v t g.is, ap size k, nl_bytes (chars r.rest.now));
       }
-
-  pub items_end : {pos n : ℕ} {w : Count} (s : ItemsTo v d m page start pos n w) → item (read_list v) (from page pos) ≡ none →
-      every (then_nl (item (read_list v))) (from page start) ≡ (s.read, from page pos)
-  items_end s e = to_stop (then_nl (item (read_list v))) s.to (rw e)
 
 -- ---- a list
 pub list_0 : (d : ℕ) (s : List ℕ) → d ≡ 0 → read_list d s ≡ none
 unfolding read_list
 list_0 d s e = rw e
 
-list_1 : (d : ℕ) (s : List ℕ) → 1 ≤ d → read_list d s ≡ list_of (item (read_list (d - 1))) s
-unfolding read_list
-list_1 zero s h = absurd (omega arith)
-list_1 (suc d) s h = let z : d ≡ suc d - 1 = omega arith in ap (λ (d : ℕ). list_of (item (read_list d)) s) z
+pub list_2 : (d : ℕ) (s : List ℕ) → (marked ul s <|> marked ol s) ≡ none → read_list (suc d) s ≡ none
+unfolding read_list list_of
+list_2 d s e = rw e
 
-pub list_2 : (d : ℕ) (s : List ℕ) → 1 ≤ d → (marked ul s <|> marked ol s) ≡ none → read_list d s ≡ none
-unfolding list_of
-list_2 d s h e = list_1 d s h ∙ rw e
-
-closes_five : (b : Bool) → length (closes (mark_of b)) ≡ 5
-closes_five true = refl
-closes_five false = refl
-
-module _ (d : ℕ) (s : List ℕ) (h : 1 ≤ d) (m : Mark) (s₁ : List ℕ) (e : (marked ul s <|> marked ol s) ≡ some (m, s₁)) (s₂ : List ℕ) (f : nl? s₁ ≡ s₂)
-    (xs : List Item) (s₃ : List ℕ) (g : every (then_nl (item (read_list (d - 1)))) s₂ ≡ (xs, s₃)) where
+module _ (d : ℕ) (s : List ℕ) (m : Mark) (s₁ : List ℕ) (e : (marked ul s <|> marked ol s) ≡ some (m, s₁)) (s₂ : List ℕ) (f : s₂ ≡ nl? s₁)
+    (xs : List Item) (s₃ : List ℕ) (g : every (then_nl (item (read_list d))) s₂ ≡ (xs, s₃)) where
   list_end : Answer (Mark × Items)
   list_end = some_items xs >>= λ its. strip (closes m) s₃ >>= λ r. some ((m, its), r)
 
-  list_is : read_list d s ≡ list_end
-  unfolding list_of list_end
+  list_is : read_list (suc d) s ≡ list_end
+  unfolding read_list list_of list_end
   list_is =
       let l₁ = ap length (marked_inv s (m, s₁) e) ∙ length-append (opens m) s₁ in
       let l₂ = nl_shrinks s₁ in
       let l₃ = ap length f in
-      list_1 d s h ∙ rw (e, f, many_every (then_nl (item (read_list (d - 1)))) (items_shrink (d - 1)) (length s) s₂ (omega arith), g)
+      rw (e, ← f, many_every (then_nl (item (read_list d))) (items_shrink d) (length s) s₂ (omega arith), g)
 
-  empty : length xs ≡ 0 → read_list d s ≡ none
+  empty : length xs ≡ 0 → read_list (suc d) s ≡ none
   unfolding list_end
   empty q = list_is ∙ go xs q
     where
@@ -176,7 +152,7 @@ module _ (d : ℕ) (s : List ℕ) (h : 1 ≤ d) (m : Mark) (s₁ : List ℕ) (e 
       go [] q = refl
       go (x ∷ xs) q = absurd (omega arith)
 
-  not_closed : strip (closes m) s₃ ≡ none → read_list d s ≡ none
+  not_closed : strip (closes m) s₃ ≡ none → read_list (suc d) s ≡ none
   unfolding list_end
   not_closed q = list_is ∙ go xs
     where
@@ -184,7 +160,7 @@ module _ (d : ℕ) (s : List ℕ) (h : 1 ≤ d) (m : Mark) (s₁ : List ℕ) (e 
       go [] = refl
       go (x ∷ xs) = rw q
 
-  closed : {r : List ℕ} → (length xs ≡ 0 → ⊥) → strip (closes m) s₃ ≡ some r → read_list d s ≡ some ((m, items xs), r)
+  closed : {r : List ℕ} → (length xs ≡ 0 → ⊥) → strip (closes m) s₃ ≡ some r → read_list (suc d) s ≡ some ((m, items xs), r)
   unfolding list_end
   closed {r} n q = list_is ∙ go xs n
     where
@@ -192,30 +168,20 @@ module _ (d : ℕ) (s : List ℕ) (h : 1 ≤ d) (m : Mark) (s₁ : List ℕ) (e 
       go [] n = absurd (n refl)
       go (x ∷ xs) n = rw q
 
-module _ (page : List ℕ) (at d : ℕ) (h : 1 ≤ d) (b : Bool) (o : Began page at b) (start : ℕ) (k : Skipped page (at + 4) start) {v pos n : ℕ} {w : Count}
-    (s : ItemsTo (d - 1) v (mark_of b) page start pos n w) (e : item (read_list (d - 1)) (from page pos) ≡ none) where
-  all_items : every (then_nl (item (read_list (d - 1)))) (from page start) ≡ (s.read, from page pos)
-  all_items = items_end (d - 1) v (mark_of b) page start s e
+module _ (d : ℕ) (s : List ℕ) (b : M.Mark) {s₁ s₂ : List ℕ} (o : (marked ul s <|> marked ol s) ≡ some (mark_of b, s₁)) (k : s₂ ≡ nl? s₁) {v n : ℕ} {t : List ℕ} {w : Count}
+    (i : ItemsTo d v (mark_of b) s₂ t n w) (e : item (read_list d) t ≡ none) where
+  all_items : every (then_nl (item (read_list d))) s₂ ≡ (i.read, t)
+  all_items = to_stop (then_nl (item (read_list d))) i.to (rw e)
 
-  pub list_3 : n ≡ 0 → read_list d (from page at) ≡ none
-  list_3 z = empty d (from page at) h (mark_of b) _ o.is _ k.rest s.read _ all_items (omega (arith, s.many))
+  pub list_3 : n ≡ 0 → read_list (suc d) s ≡ none
+  list_3 z = empty d s (mark_of b) s₁ o s₂ k i.read t all_items (omega (arith, i.many))
 
-  pub list_4 : strip (closes (mark_of b)) (from page pos) ≡ none → read_list d (from page at) ≡ none
-  list_4 q = not_closed d (from page at) h (mark_of b) _ o.is _ k.rest s.read _ all_items q
+  pub list_4 : strip (closes (mark_of b)) t ≡ none → read_list (suc d) s ≡ none
+  list_4 q = not_closed d s (mark_of b) s₁ o s₂ k i.read t all_items q
 
-  pub list_5 : v ≡ 8 - d → (n ≡ 0 → ⊥) → {r : Bool} → Tagged (closes (mark_of b)) page pos r → r ≡ true → Says (list_form (8 - d)) page at (read_list d (from page at)) (At (pos + 5) w)
+  pub list_5 : (n ≡ 0 → ⊥) → {r : List ℕ} → strip (closes (mark_of b)) t ≡ some r → read_list (suc d) s ≡ some ((mark_of b, items i.read), r)
+  list_5 z q = closed d s (mark_of b) s₁ o s₂ k i.read t all_items (λ u. z (i.many ∙ u)) q
+
+  pub list_weight : {u : ℕ} → v ≡ u → w ≡ weight (list_form u (mark_of b, items i.read))
   unfolding list_form
-  list_5 z q t y =
-      let c = is_tag (closes (mark_of b)) page pos t y in
-      let five = closes_five b in
-      let i = c.1 s.within in
-      let p : strip (closes (mark_of b)) (from page pos) ≡ some (from page (pos + 5)) = c.0 ∙ ap (λ (n : ℕ). some (from page (pos + n))) five in
-      let l₁ = s.later in
-      let l₂ = k.later in
-      answers (list_form (8 - d)) page at (read_list d (from page at))
-      (closed d (from page at) h (mark_of b) _ o.is _ k.rest s.read _ all_items (λ u. q (s.many ∙ u)) p)
-      (s.kept ∙ ap (λ (v : ℕ). weight (led_rows (rows_from v (mark_of b) 1 (items s.read)))) z)
-      (omega arith) (omega arith)
-
-  pub list_bound : {r : Bool} → Tagged (closes (mark_of b)) page pos r → r ≡ true → pos + 5 ≤ length page
-  list_bound t y = omega (arith, (is_tag (closes (mark_of b)) page pos t y).1 s.within, closes_five b)
+  list_weight z = i.kept ∙ ap (λ (v : ℕ). weight (led_rows (rows_from v (mark_of b) 1 (items i.read)))) z

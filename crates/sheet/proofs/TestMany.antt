@@ -1,12 +1,7 @@
 -- A reader used again and again: how often it may be tried does not matter, if each time it leaves less.
 -- Assumes nothing.
-use Prim.Native.Nat.{ℕ, zero, suc, ◌≤◌}
-use native.Mathlib.Omega.{arith}
-use native.Mathlib.Nat.{le_refl}
-use mathlib.Core.Path.{◌≡◌, refl, sym, ◌∙◌, ap}
-use mathlib.Core.Option.{none, some}
-use mathlib.Core.List.{List, [], ◌∷◌, ◌++◌, append-nil}
-use lib.ListN.{length}
+use Rattle.std.proofs.Common.{◌≡◌, refl, sym, ◌∙◌, ap, ℕ, zero, suc, ◌≤◌, arith, le_refl, List, [], ◌∷◌, ◌++◌, append-nil, length}
+use Rattle.std.proofs.Math.Option.{none, some}
 use lib.Seq.{append_snoc}
 use Rattle.sheet.specs.Reading.{many}
 use Rattle.sheet.specs.Reader.{Answer}

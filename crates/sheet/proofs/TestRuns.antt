@@ -1,70 +1,49 @@
 -- Runs, and the runs of a line.
 -- Assumes nothing.
-use Prim.Native.Nat.{ℕ, ◌+◌, ◌≤◌, ◌<◌}
-use native.Mathlib.Omega.{arith}
-use mathlib.Core.Path.{◌≡◌, refl, sym, ◌∙◌, ap, subst}
-use mathlib.Core.Bool.{Bool, true, false, not}
-use mathlib.Core.Option.{none, some}
-use mathlib.Core.List.{List, [], ◌∷◌}
-use mathlib.Core.Logic.{⊎_elim}
-use borrow.Author.Tests.{ltb-true, ltb-false}
-use lib.Dec.{eqb, ltb}
-use lib.ListN.{length}
-use Rattle.text.specs.Words.{str}
+use Rattle.std.proofs.Common.{◌≡◌, refl, sym, ◌∙◌, ap, ℕ, Bool, true, false, not, ◌&&◌, List, [], ◌∷◌, eqb, Bor, Option as Maybe, Some, None, is_some, unwrap_or}
+use Rattle.std.proofs.Math.Option.{none, some}
 use Rattle.text.specs.Chars.{is_letter}
-use Rattle.text.proofs.Tests.{decide}
-use Rattle.text.proofs.Laws.{advance_end}
-use Rattle.sheet.specs.Reading.{strip, many}
+use Rattle.text.specs.Utf8.{chars}
+use Rattle.records.specs.Format.{non_empty}
+use Rattle.sheet.specs.Reading.{◌<|>◌, strip}
 use Rattle.sheet.specs.Tree as T
-use Rattle.sheet.specs.Tree.{Run, run}
-use Rattle.sheet.specs.Grammar.{before, after, first_is, last_is, no_blank, singles, fits}
-use Rattle.sheet.specs.Reader.{Answer, text, kind, one_run}
-use Rattle.sheet.specs.Says.{from, Tagged}
-use Rattle.sheet.specs.Keeps.{first_of, last_of, gist, Scanned, kind_of, coded, suits, Opened, Ran}
-use Rattle.sheet.specs.declared.line.Kind.{Kind}
-use Rattle.sheet.specs.declared.line.Kind.TheVariants.{Plain, Strong, Em, Both, Code}
-use Rattle.sheet.specs.declared.line.Gist.{Gist}
-use Rattle.sheet.specs.declared.line.Passage.{Passage}
-use Rattle.sheet.specs.declared.line.OneRun.{OneRun}
-use Rattle.sheet.specs.declared.line.OneRun.TheVariants as R
-use Rattle.sheet.proofs.TestTags.{Stands, is_tag}
-use Rattle.sheet.proofs.Shrinks.{run_shrinks}
+use Rattle.sheet.specs.Tree.{run}
+use Rattle.sheet.specs.Grammar.{after, first_is, last_is, no_blank, fits}
+use Rattle.sheet.specs.Reader.{Answer, text, opening, kind, one_run}
+use Rattle.sheet.specs.Says.{Says}
+use Rattle.sheet.specs.Keeps.{last_of, edges_of, of_edges, gist, Scanned, kind_of, IsKind, coded, suits}
+use Rattle.sheet.specs.declared.reading.Read.{Read}
+use Rattle.sheet.specs.declared.passage.Gist.{Gist}
+use Rattle.sheet.specs.declared.kind.Kind.{Kind}
+use Rattle.sheet.specs.declared.kind.Kind.TheVariants.{Plain, Strong, Em, Both, Code}
+use Rattle.sheet.proofs.ReadingLaws.{alt_assoc}
 
 -- ---- the kind of a run
-module _ (page : List ℕ) (at : ℕ) where
-  pub kind_1 : Stands (str "<strong><em>") page at → Opened page at T.both
+module _ (page : Bor (List ℕ)) where
+  abbrev s : List ℕ
+  s = chars page.now
+
+  kinds : kind s ≡ ((((opening T.both s <|> opening T.strong s) <|> opening T.em s) <|> opening T.code s) <|> opening T.plain s)
   unfolding kind
-  kind_1 t = record { is = rw t.off; within = t.within }
+  kinds =
+      sym (
+      alt_assoc ((opening T.both s <|> opening T.strong s) <|> opening T.em s) (opening T.code s) (opening T.plain s)
+      ∙ alt_assoc (opening T.both s <|> opening T.strong s) (opening T.em s) (opening T.code s <|> opening T.plain s)
+      ∙ alt_assoc (opening T.both s) (opening T.strong s) (opening T.em s <|> opening T.code s <|> opening T.plain s)
+      )
 
-  module _ (e₁ : strip (str "<strong><em>") (from page at) ≡ none) where
-    pub kind_2 : Stands (str "<strong>") page at → Opened page at T.strong
-    unfolding kind
-    kind_2 t = record { is = rw (e₁, t.off); within = t.within }
+  plain_else : (o : Answer T.Kind) (q : Maybe (Read Kind)) → Says IsKind o q → {r : Read Kind} → r ≡ unwrap_or q (record { value = Plain; rest = page }) →
+      (o <|> opening T.plain s) ≡ some (kind_of r.value, chars r.rest.now)
+  plain_else none None h e = rw e
+  plain_else (some x) (Some v) h e = rw (e, h.rest) (ap (λ (k : T.Kind). some (k, chars v.rest.now)) h.value)
+  plain_else none (Some v) h e = absurd h
+  plain_else (some x) None h e = absurd h
 
-    module _ (e₂ : strip (str "<strong>") (from page at) ≡ none) where
-      pub kind_3 : Stands (str "<em>") page at → Opened page at T.em
-      unfolding kind
-      kind_3 t = record { is = rw (e₁, e₂, t.off); within = t.within }
-
-      module _ (e₃ : strip (str "<em>") (from page at) ≡ none) where
-        pub kind_4 : Stands (str "<code>") page at → Opened page at T.code
-        unfolding kind
-        kind_4 t = record { is = rw (e₁, e₂, e₃, t.off); within = t.within }
-
-        pub kind_5 : strip (str "<code>") (from page at) ≡ none → Opened page at T.plain
-        unfolding kind
-        kind_5 e₄ =
-            let z : at + 0 ≡ at = omega arith in
-            record { is = rw (e₁, e₂, e₃, e₄, z); within = λ h. omega arith }
+  pub kind_is : (q : Maybe (Read Kind)) → Says IsKind (((opening T.both s <|> opening T.strong s) <|> opening T.em s) <|> opening T.code s) q → {r : Read Kind} →
+      r ≡ unwrap_or q (record { value = Plain; rest = page }) → kind s ≡ some (kind_of r.value, chars r.rest.now)
+  kind_is q h e = kinds ∙ plain_else (((opening T.both s <|> opening T.strong s) <|> opening T.em s) <|> opening T.code s) q h e
 
 -- ---- the code's kinds and the tree's
-pub kind_coded : (k : T.Kind) → kind_of (coded k) ≡ k
-kind_coded T.plain = refl
-kind_coded T.strong = refl
-kind_coded T.em = refl
-kind_coded T.both = refl
-kind_coded T.code = refl
-
 pub coded_kind : (k : Kind) → k ≡ coded (kind_of k)
 coded_kind Plain = refl
 coded_kind Strong = refl
@@ -72,116 +51,70 @@ coded_kind Em = refl
 coded_kind Both = refl
 coded_kind Code = refl
 
--- ---- the test of a run's text
-first_blank : (t : List ℕ) → first_is no_blank t ≡ not (eqb (first_of t) 32)
-unfolding first_is
-first_blank [] = refl
-first_blank (a ∷ t) = refl
+pub kind_coded : (k : T.Kind) → k ≡ kind_of (coded k)
+kind_coded T.plain = refl
+kind_coded T.strong = refl
+kind_coded T.em = refl
+kind_coded T.both = refl
+kind_coded T.code = refl
 
-pub last_blank : (t : List ℕ) → last_is no_blank t ≡ not (eqb (last_of t) 32)
+-- ---- the test of a run's text
+pub last_blank : (t : List ℕ) → last_is no_blank t ≡ of_edges (λ e. not (eqb e.last 32)) (edges_of t)
 unfolding last_is
 last_blank [] = refl
-last_blank (a ∷ []) = refl
-last_blank (a ∷ b ∷ t) = last_blank (b ∷ t)
+last_blank (a ∷ t) = last_blank_of a t
+  where
+    last_blank_of : (a : ℕ) (t : List ℕ) → last_is no_blank (a ∷ t) ≡ not (eqb (last_of a t) 32)
+    last_blank_of a [] = refl
+    last_blank_of a (b ∷ t) = last_blank_of b t
 
-pub first_letter_of : (t : List ℕ) → first_is is_letter t ≡ is_letter (first_of t)
+pub first_letter_of : (t : List ℕ) → first_is is_letter t ≡ of_edges (λ e. is_letter e.first) (edges_of t)
 unfolding first_is
 first_letter_of [] = refl
 first_letter_of (a ∷ t) = refl
 
+edged_is : (t : List ℕ) → first_is no_blank t && last_is no_blank t ≡ of_edges (λ e. not (eqb e.first 32) && not (eqb e.last 32)) (edges_of t)
+unfolding first_is
+edged_is [] = refl
+edged_is (a ∷ t) = ap (λ (x : Bool). not (eqb a 32) && x) (last_blank (a ∷ t))
+
+some_edges : (t : List ℕ) → non_empty t ≡ is_some (edges_of t)
+some_edges [] = refl
+some_edges (a ∷ t) = refl
+
 pub suits_fits : (k : T.Kind) (t : List ℕ) → fits k t ≡ suits k (gist t)
 unfolding fits gist
-suits_fits T.plain t = refl
-suits_fits T.strong t = rw (first_blank t, last_blank t)
-suits_fits T.em t = rw (first_blank t, last_blank t)
-suits_fits T.both t = rw (first_blank t, last_blank t)
-suits_fits T.code t = rw (first_blank t, last_blank t)
+suits_fits T.plain t = rw (some_edges t)
+suits_fits T.strong t = rw (edged_is t)
+suits_fits T.em t = rw (edged_is t)
+suits_fits T.both t = rw (edged_is t)
+suits_fits T.code t = rw (edged_is t)
 
 -- ---- one run
-module _ (page : List ℕ) (at : ℕ) where
-  pub ran : (o : Answer Run) {k : T.Kind} {t : List ℕ} {n : ℕ} {l : Kind} {g : Gist} → o ≡ some (run k t, from page n) → l ≡ coded k → g ≡ gist t → at < n →
-      n ≤ length page → Ran page at o (R.At n l g)
-  ran o {k} {t} {n} {l} {g} e f h p q =
-      subst (λ (o : Answer Run). Ran page at o (R.At n l g)) (sym e) (n, cc, record { starts = refl; later = p; within = q })
+module _ (s : List ℕ) (o : Read Kind) (e : kind s ≡ some (kind_of o.value, chars o.rest.now)) (p : Read Gist) (z : Scanned (chars o.rest.now) p) where
+  abbrev k : T.Kind
+  k = kind_of o.value
 
-  pub not_ran : (o : Answer Run) → o ≡ none → Ran page at o R.No
-  not_ran o e = subst (λ (o : Answer Run). Ran page at o R.No) (sym e) refl
+  pub t : List ℕ
+  t = (text (chars o.rest.now)).0
 
-  pub run_0 : length page ≤ at → one_run (from page at) ≡ none
-  unfolding one_run kind text many fits singles first_is
-  run_0 h = rw (advance_end page at h)
+  fits_it : fits k t ≡ suits k p.value
+  unfolding t
+  fits_it = suits_fits k t ∙ ap (suits k) (sym z.value)
 
-  module _ (l : Kind) (o : Opened page at (kind_of l)) (b : ℕ) (e : b ≡ length (before (kind_of l))) (p : Passage) (z : Scanned page (at + b) p) where
-    t : List ℕ
-    t = (text (from page (at + b))).0
+  pub run_1 : suits k p.value ≡ false → one_run s ≡ none
+  unfolding one_run t
+  run_1 h = rw (e, fits_it, h)
 
-    opened : kind (from page at) ≡ some (kind_of l, from page (at + b))
-    opened = o.is ∙ ap (λ (b : ℕ). some (kind_of l, from page (at + b))) (sym e)
-
-    fits_it : fits (kind_of l) t ≡ suits (kind_of l) p.gist
-    unfolding t
-    fits_it = suits_fits (kind_of l) t ∙ ap (suits (kind_of l)) (sym z.what)
-
-    pub run_1 : suits (kind_of l) p.gist ≡ false → one_run (from page at) ≡ none
+  module _ (h : suits k p.value ≡ true) where
+    pub run_2 : strip (after k) (chars p.rest.now) ≡ none → one_run s ≡ none
     unfolding one_run t
-    run_1 h = rw (opened, fits_it, h)
+    run_2 f = rw (e, fits_it, h, z.rest, f)
 
-    module _ (h : suits (kind_of l) p.gist ≡ true) where
-      pub run_2 : strip (after (kind_of l)) (from page p.next) ≡ none → one_run (from page at) ≡ none
-      unfolding one_run t
-      run_2 f = rw (opened, fits_it, h, z.rest, f)
+    pub run_3 : {r : List ℕ} → strip (after k) (chars p.rest.now) ≡ some r → one_run s ≡ some (run k t, r)
+    unfolding one_run t
+    run_3 f = rw (e, fits_it, h, z.rest, f)
 
-      run_is : (n : ℕ) → strip (after (kind_of l)) (from page p.next) ≡ some (from page n) → one_run (from page at) ≡ some (run (kind_of l) t, from page n)
-      unfolding one_run t
-      run_is n f = rw (opened, fits_it, h, z.rest, f)
-
-      module _ (i : at ≤ length page) {m : ℕ} (q : m ≡ length (after (kind_of l))) {r : Bool} (c : Tagged (after (kind_of l)) page p.next r) (y : r ≡ true) where
-        pub run_bound : p.next + m ≤ length page
-        run_bound =
-            let u = o.within i in
-            let v = z.within (omega arith) in
-            let w = (is_tag (after (kind_of l)) page p.next c y).1 v in
-            omega arith
-
-        pub run_3 : Ran page at (one_run (from page at)) (R.At (p.next + m) l p.gist)
-        unfolding t
-        run_3 =
-            let f = (is_tag (after (kind_of l)) page p.next c y).0 ∙ ap (λ (m : ℕ). some (from page (p.next + m))) (sym q) in
-            let n = p.next + m in
-            let w = run_is n f in
-            let s = run_shrinks (from page at) (run (kind_of l) t, from page n) w in
-            let d : n ≡ at → ⊥ = λ v. omega (arith, ap (λ (n : ℕ). length (from page n)) v) in
-            let j = z.later in
-            ran (one_run (from page at)) w (coded_kind l) z.what (⊎_elim (λ v. ltb-true at n v) (λ v. let u = ltb-false at n v in absurd (d (omega arith))) (decide (ltb at n))) run_bound
-
--- ---- from an answer of the code to the reader's
-pub record RunIs (page : List ℕ) (at next : ℕ) (l : Kind) (g : Gist) : Type 0 where
-  pub kind : T.Kind
-  pub text : List ℕ
-  pub is : one_run (from page at) ≡ some (run kind text, from page next)
-  pub kinds : l ≡ coded kind
-  pub gists : g ≡ gist text
-  pub later : at < next
-  pub within : next ≤ length page
-
-module _ (page : List ℕ) (at : ℕ) where
-  no_run : (o : Answer Run) {r : OneRun} → Ran page at o r → r ≡ R.No → o ≡ none
-  no_run none h e = refl
-  no_run (some (run k t, m)) h e = let q = h.1 in let z : ◌≡◌ {A = ℕ} 0 1 = cc in absurd (omega arith)
-
-  pub run_no : {r : OneRun} → Ran page at (one_run (from page at)) r → r ≡ R.No → one_run (from page at) ≡ none
-  run_no h e = no_run (one_run (from page at)) h e
-
-  pub run_at : {r : OneRun} {n : ℕ} {l : Kind} {g : Gist} → Ran page at (one_run (from page at)) r → r ≡ R.At n l g → RunIs page at n l g
-  run_at {r} {n} {l} {g} h e = go (one_run (from page at)) refl h
-    where
-      go : (o : Answer Run) → one_run (from page at) ≡ o → Ran page at o r → RunIs page at n l g
-      go none f h = let z : ◌≡◌ {A = ℕ} 0 1 = cc in absurd (omega arith)
-      go (some (run k t, m)) f h =
-          let q = h.1 in
-          let p = h.2 in
-          let w : h.0 ≡ n = cc in
-          let u : l ≡ coded k = cc in
-          let v : g ≡ gist t = cc in
-          let x : m ≡ from page n = sym p.starts ∙ ap (from page) w in
-          record { kind = k; text = t; is = f ∙ ap (λ (r : List ℕ). some (run k t, r)) x; kinds = u; gists = v; later = omega (arith, p.later); within = omega (arith, p.within) }
+    pub run_text : p.value ≡ gist t
+    unfolding t
+    run_text = z.value

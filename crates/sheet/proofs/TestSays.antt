@@ -1,44 +1,47 @@
 -- From an answer of the code to the reader's, and back.
 -- Assumes nothing.
-use Prim.Native.Nat.{ℕ, ◌≤◌, ◌<◌}
-use native.Mathlib.Omega.{arith}
-use mathlib.Core.Path.{◌≡◌, refl, sym, ◌∙◌, ap, subst}
-use mathlib.Core.Option.{none, some}
-use mathlib.Core.List.{List}
-use lib.ListN.{length}
+use Rattle.std.proofs.Common.{◌≡◌, refl, sym, ap, subst, List, ℕ, Option as Maybe, Some, None, MatchOption}
+use Rattle.std.proofs.Math.Option.{none, some}
+use Rattle.text.specs.Words.{◌>>=◌}
+use Rattle.text.specs.Utf8.{chars}
+use Rattle.sheet.specs.Reading.{◌<|>◌}
 use Rattle.sheet.specs.Reader.{Answer}
-use Rattle.sheet.specs.Weight.{weight}
-use Rattle.sheet.specs.Says.{from, Says}
-use Rattle.sheet.specs.declared.count.Count.{Count}
-use Rattle.sheet.specs.declared.count.Read.{Read}
-use Rattle.sheet.specs.declared.count.Read.TheVariants.{At, No}
+use Rattle.sheet.specs.Says.{Says}
+use Rattle.sheet.specs.declared.reading.Read.{Read}
 
--- the reader's answer where the code's is `At n w`
-pub record Got {A : Type 0} (form : A → List ℕ) (page : List ℕ) (at : ℕ) (o : Answer A) (n : ℕ) (w : Count) : Type 0 where
+-- the reader's answer where the code's is r
+pub record Got {A B : Type 0} (R : A → B → Type 0) (o : Answer A) (r : Read B) : Type 0 where
   pub what : A
-  pub is : o ≡ some (what, from page n)
-  pub count : w ≡ weight (form what)
-  pub later : at < n
-  pub within : n ≤ length page
+  pub is : o ≡ some (what, chars r.rest.now)
+  pub value : R what r.value
 
-module _ {A : Type 0} (form : A → List ℕ) (page : List ℕ) (at : ℕ) where
-  pub says_no : (o : Answer A) {r : Read} → Says form page at o r → r ≡ No → o ≡ none
-  says_no none h e = refl
-  says_no (some x) h e = let q = h.1 in let z : ◌≡◌ {A = ℕ} 0 1 = cc in absurd (omega arith)
+module _ {A B : Type 0} (R : A → B → Type 0) where
+  pub says_no : (o : Answer A) → Says R o None → o ≡ none
+  says_no none h = refl
+  says_no (some x) h = absurd h
 
-  pub says_at : (o : Answer A) {r : Read} {n : ℕ} {w : Count} → Says form page at o r → r ≡ At n w → Got form page at o n w
-  says_at none h e = let z : ◌≡◌ {A = ℕ} 0 1 = cc in absurd (omega arith)
-  says_at (some x) {r} {n} {w} h e =
-      let q = h.1 in
-      let p = h.2 in
-      let z : h.0 ≡ n = cc in
-      let k : w ≡ weight (form x.0) = cc in
-      let v : from page n ≡ x.1 = ap (from page) (sym z) ∙ p.starts in
-      record { what = x.0; is = ap (λ (r : List ℕ). some (x.0, r)) (sym v); count = k; later = omega (arith, p.later); within = omega (arith, p.within) }
+  pub got : (o : Answer A) {v : Read B} → Says R o (Some v) → Got R o v
+  got none h = absurd h
+  got (some x) h = record { what = x.0; is = ap (λ (r : List ℕ). some (x.0, r)) h.rest; value = h.value }
 
   -- an answer of the code, from the reader's
-  pub answers : (o : Answer A) {x : A} {n : ℕ} {w : Count} → o ≡ some (x, from page n) → w ≡ weight (form x) → at < n → n ≤ length page → Says form page at o (At n w)
-  answers o {x} {n} {w} e k l b = subst (λ (o : Answer A). Says form page at o (At n w)) (sym e) (n, ap (At n) k, record { starts = refl; later = l; within = b })
+  pub answers : {o : Answer A} {x : A} (v : Read B) → o ≡ some (x, chars v.rest.now) → R x v.value → Says R o (Some v)
+  answers v e k = subst (λ (o : Answer A). Says R o (Some v)) (sym e) (record { value = k; rest = refl })
 
-  pub refuses : (o : Answer A) → o ≡ none → Says form page at o No
-  refuses o e = subst (λ (o : Answer A). Says form page at o No) (sym e) refl
+  pub refuses : {o : Answer A} {r : Maybe (Read B)} → o ≡ none → r ≡ None → Says R o r
+  refuses {o} {r} e f = rw (e, f) tt
+
+  -- the first of two that has an answer
+  pub or_says : (o p : Answer A) (q t : Maybe (Read B)) → Says R o q → MatchOption q (Says R p t) (λ v. t ≡ Some v) → Says R (o <|> p) t
+  or_says none p None t h m = m
+  or_says (some x) p (Some v) t h m = rw m h
+  or_says none p (Some v) t h m = absurd h
+  or_says (some x) p None t h m = absurd h
+
+-- what was read, seen as another thing
+pub says_as : {A B C : Type 0} (R : A → B → Type 0) (S : C → B → Type 0) (f : A → C) → ((x : A) (y : B) → R x y → S (f x) y) → (o : Answer A) (r : Maybe (Read B)) → Says R o r
+    → Says S (o >>= λ x. some (f x.0, x.1)) r
+says_as R S f k none None h = tt
+says_as R S f k (some x) (Some r) h = record { value = k x.0 r.value h.value; rest = h.rest }
+says_as R S f k none (Some r) h = absurd h
+says_as R S f k (some x) None h = absurd h

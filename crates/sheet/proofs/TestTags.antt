@@ -1,24 +1,15 @@
 -- Taking a tag off the bytes is taking it off the characters, since a tag is ASCII.
 -- Assumes nothing.
-use Prim.Native.Nat.{ℕ, ◌+◌, ◌≤◌, ◌<◌}
-use native.Mathlib.Omega.{arith}
-use mathlib.Core.Path.{◌≡◌, refl, sym, ◌∙◌, subst}
-use mathlib.Core.Bool.{Bool, true, false, ◌&&◌}
-use mathlib.Core.Option.{none, some}
-use mathlib.Core.Logic.{⊎_elim}
-use mathlib.Core.List.{List, [], ◌∷◌}
-use borrow.Author.Tests.{eqb-true, eq-eqb, ne_eqb, ltb-true, ltb-false}
-use lib.Dec.{eqb, ltb}
-use lib.ListN.{length, drop, length-drop}
-use lib.Seq.{drop-drop}
+use Rattle.std.proofs.Common.{◌≡◌, refl, sym, ◌∙◌, subst, ℕ, ◌≤◌, ◌<◌, arith, Bool, true, false, ◌&&◌, ⊎_elim, List, [], ◌∷◌, eqb-true, eq-eqb, ne_eqb, ltb-true}
+use Rattle.std.proofs.Common.{ltb-false, eqb, ltb, length, drop}
+use Rattle.std.proofs.Math.Option.{none, some}
 use Rattle.text.specs.Words.{all, starts_with}
 use Rattle.text.specs.Chars.{is_ascii}
 use Rattle.text.specs.Utf8.{chars}
 use Rattle.text.proofs.Tests.{decide, and_true}
-use Rattle.text.proofs.Laws.{chars_nil, advance_end}
+use Rattle.text.proofs.Laws.{chars_nil}
 use Rattle.text.proofs.AsciiLaws.{chars_ascii, chars_high}
 use Rattle.sheet.specs.Reading.{strip}
-use Rattle.sheet.specs.Says.{from, Tagged}
 
 -- what is left after the tag, or that it does not stand there
 abbrev After : List ℕ → List ℕ → Bool → Type 0
@@ -47,42 +38,9 @@ strip_starts (a ∷ t) (b ∷ s) h =
     go l false e y q = other l (λ z. let w : ◌≡◌ {A = Bool} true false = sym (eq-eqb b a (sym z)) ∙ e in let v : ◌≡◌ {A = ℕ} 0 1 = cc in omega arith)
 
 -- what `text::starts_with` says of a tag that is ASCII
-pub tagged : (t page : List ℕ) (at : ℕ) → all is_ascii t ≡ true → {r : Bool} → r ≡ starts_with t (drop at page) → Tagged t page at r
-tagged t page at h {r} e = subst (Tagged t page at) (sym e) (go (starts_with t (drop at page)) (strip_starts t (drop at page) h))
-  where
-    go : (r : Bool) → After t (drop at page) r → Tagged t page at r
-    go true q = (q.0 ∙ rw drop-drop, λ l. omega (arith, q.1, length-drop at page))
-    go false q = q
+module _ (t s : List ℕ) (h : all is_ascii t ≡ true) where
+  pub strips : true ≡ starts_with t s → (strip t (chars s) ≡ some (chars (drop (length t) s))) × (length t ≤ length s)
+  strips e = subst (After t s) (sym e) (strip_starts t s h)
 
-pub is_tag : (t page : List ℕ) (at : ℕ) {r : Bool} → Tagged t page at r → r ≡ true → (strip t (from page at) ≡ some (from page (at + length t))) × (at ≤ length page → at + length t ≤ length page)
-is_tag t page at h e = subst (Tagged t page at) e h
-
-pub no_tag : (t page : List ℕ) (at : ℕ) {r : Bool} → Tagged t page at r → r ≡ false → strip t (from page at) ≡ none
-no_tag t page at h e = subst (Tagged t page at) e h
-
--- the two together, as a function's proof has them
-pub record Stands (t page : List ℕ) (at : ℕ) : Type 0 where
-  pub off : strip t (from page at) ≡ some (from page (at + length t))
-  pub within : at ≤ length page → at + length t ≤ length page
-  pub inside : 0 < length t → at + length t ≤ length page
-
-module _ (t page : List ℕ) (at : ℕ) (h : all is_ascii t ≡ true) {r : Bool} (e : r ≡ starts_with t (drop at page)) where
-  pub stands : r ≡ true → Stands t page at
-  stands f =
-      let q = is_tag t page at (tagged t page at h e) f in
-      record { off = q.0; within = q.1; inside = λ p. ⊎_elim (λ l. q.1 (ltb_below l)) (λ l. absurd (past l p q.0)) (decide (ltb at (length page))) }
-    where
-      ltb_below : ltb at (length page) ≡ true → at ≤ length page
-      ltb_below l = let z = ltb-true at (length page) l in omega arith
-
-      none_left : (t s : List ℕ) → 0 < length t → s ≡ [] → strip t s ≡ none
-      none_left [] s p e = absurd (omega arith)
-      none_left (a ∷ t) s p e = rw e
-
-      past : ltb at (length page) ≡ false → 0 < length t → strip t (from page at) ≡ some (from page (at + length t)) → ⊥
-      past l p q =
-          let n = none_left t (from page at) p (advance_end page at (ltb-false at (length page) l)) in
-          let z : ◌≡◌ {A = ℕ} 0 1 = cc in omega arith
-
-  pub missing : r ≡ false → strip t (from page at) ≡ none
-  missing f = no_tag t page at (tagged t page at h e) f
+  pub strips_not : false ≡ starts_with t s → strip t (chars s) ≡ none
+  strips_not e = subst (After t s) (sym e) (strip_starts t s h)

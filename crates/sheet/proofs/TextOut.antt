@@ -1,15 +1,15 @@
 -- Converting a run's text writes it escaped; its last space is held back.
 -- Assumes nothing.
-use Prim.Native.Nat.{ℕ}
-use mathlib.Core.Path.{◌≡◌, refl, sym, ◌∙◌, ap, subst}
-use mathlib.Core.Bool.{Bool, true, false, not, ◌&&◌, cond, and-false, or-false, and-true as and_true_right}
-use mathlib.Core.List.{List, [], ◌∷◌, ◌++◌, reverse_aux, tail, reverse_aux-append}
-use borrow.Author.Tests.{not-true, eqb-true}
-use lib.Dec.{eqb}
+use Rattle.std.proofs.Common.{◌≡◌, refl, sym, ◌∙◌, ap, subst, ℕ, Bool, true, false, not, ◌&&◌, cond, List, [], ◌∷◌, ◌++◌, eqb-true, eqb}
+use Rattle.std.proofs.Common.{arith}
+use Rattle.std.proofs.lemmas.Bool.Decides.{nat_tests}
+use mathlib.Core.Bool.{and-false, or-false, and-true as and_true_right}
+use mathlib.Core.List.{reverse_aux, tail, reverse_aux-append}
+use borrow.Author.Tests.{not-true}
 use Rattle.text.specs.Words.{is_empty}
 use Rattle.text.specs.Chars.{is_space}
 use Rattle.text.proofs.Tests.{and_true, false_true}
-use Rattle.html.specs.State.{State, with_out, line_start, spaced, special, opens, ends_with_digit, escape, put, blank, paused, next, put_all}
+use Rattle.html.specs.State.{State, line_start, spaced, special, opens, ends_with_digit, escape, put, blank, paused, next, put_all}
 use Rattle.sheet.specs.Grammar.{last_is, no_blank}
 use Rattle.sheet.specs.Written.{escaped}
 use Rattle.sheet.proofs.Facts.{no_space}
@@ -28,11 +28,7 @@ inline v = not (is_empty v) && not (begins 10 v)
 pub line_start_is : (v : List ℕ) → line_start v ≡ not (inline v)
 unfolding line_start inline begins
 line_start_is [] = refl
-line_start_is (a ∷ v) = go (eqb a 10)
-  where
-    go : (t : Bool) → (t && true) ≡ not (not t)
-    go true = refl
-    go false = refl
+line_start_is (a ∷ v) = grind (arith, nat_tests)
 
 -- single spaces and characters that are none; p: a space stands before
 unfoldable pub singly : Bool → List ℕ → Bool
@@ -57,25 +53,13 @@ module _ (l : List ℕ) where
   hold v = st l (cond (begins 32 v) (tail v) v) (begins 32 v)
 
   pub low_hold : (v : List ℕ) → Low v → Low (hold v).out
-  low_hold [] h = go (begins 32 [])
-    where
-      go : (t : Bool) → Low (cond t [] [])
-      go true = h
-      go false = h
-  low_hold (a ∷ v) h = go (begins 32 (a ∷ v))
-    where
-      go : (t : Bool) → Low (cond t v (a ∷ v))
-      go true = low_tail a v h
-      go false = h
+  low_hold [] h = grind (arith, nat_tests)
+  low_hold (a ∷ v) h = let t = low_tail a v in grind (arith, nat_tests)
 
   pub hold_spaced : (v : List ℕ) → spaced (hold v) ≡ st l v false
   unfolding spaced begins
   hold_spaced [] = refl
-  hold_spaced (a ∷ v) = go (eqb a 32) refl
-    where
-      go : (x : Bool) → eqb a 32 ≡ x → spaced (st l (cond x v (a ∷ v)) x) ≡ st l (a ∷ v) false
-      go true e = ap (λ (a : ℕ). st l (a ∷ v) false) (sym (eqb-true a 32 e))
-      go false e = refl
+  hold_spaced (a ∷ v) = grind (arith, nat_tests)
 
   -- what does not end in a space is there as it is
   pub held : (v : List ℕ) → begins 32 v ≡ false → hold v ≡ st l v false
@@ -96,11 +80,7 @@ module _ (l : List ℕ) where
 
   pushed : (x : ℕ) (v : List ℕ) → eqb x 32 ≡ false → begins 32 (reverse_aux (shielded x) v) ≡ false
   unfolding begins
-  pushed x v e = go (special x)
-    where
-      go : (b : Bool) → begins 32 (reverse_aux (cond b (92 ∷ x ∷ []) (x ∷ [])) v) ≡ false
-      go true = e
-      go false = e
+  pushed x v e = grind (arith, nat_tests)
 
   next_shown : (f : Bool) (x : ℕ) (v : List ℕ) → inline v ≡ true → is_space x ≡ false → (f && ends_with_digit v) ≡ false → next f x (hold v) ≡ (false, hold (reverse_aux (shielded x) v))
   unfolding next blank
@@ -109,11 +89,7 @@ module _ (l : List ℕ) where
 
   inline_pushed : (x : ℕ) (v : List ℕ) → eqb x 10 ≡ false → inline (reverse_aux (shielded x) v) ≡ true
   unfolding inline begins
-  inline_pushed x v e = go (special x)
-    where
-      go : (b : Bool) → inline (reverse_aux (cond b (92 ∷ x ∷ []) (x ∷ [])) v) ≡ true
-      go true = ap not e
-      go false = ap not e
+  inline_pushed x v e = grind (arith, nat_tests)
 
   no_first : (f : Bool) (v : List ℕ) → (f && ends_with_digit (32 ∷ v)) ≡ false
   unfolding ends_with_digit
@@ -175,11 +151,7 @@ module _ (l : List ℕ) where
 pub no_blank_end : (t v : List ℕ) → last_is no_blank t ≡ true → begins 32 (reverse_aux (escaped t) v) ≡ false
 unfolding last_is escaped begins
 no_blank_end [] v e = false_true e
-no_blank_end (x ∷ []) v e = go (special x)
-  where
-    go : (b : Bool) → begins 32 (reverse_aux (cond b (92 ∷ x ∷ []) (x ∷ []) ++ []) v) ≡ false
-    go true = not-true (eqb x 32) e
-    go false = not-true (eqb x 32) e
+no_blank_end (x ∷ []) v e = grind (arith, nat_tests)
 no_blank_end (x ∷ y ∷ t) v e =
     ap (begins 32) (reverse_aux-append (shielded x) (escaped (y ∷ t)) v)
     ∙ no_blank_end (y ∷ t) (reverse_aux (shielded x) v) e
@@ -188,12 +160,7 @@ no_blank_end (x ∷ y ∷ t) v e =
 
 same_pre : (f : Bool) (x : ℕ) (c : State) → c.pre ≡ false → (next f x c).1.pre ≡ false
 unfolding next paused put spaced
-same_pre f x c e = go (blank c.pre x) c.space
-  where
-    go : (a b : Bool) → (cond {A = Bool × State} a (f, with_out c.out (not (line_start c.out)) c) (false, put f x (cond b (with_out (32 ∷ c.out) false c) c))).1.pre ≡ false
-    go true b = e
-    go false true = e
-    go false false = e
+same_pre f x c e = grind (arith, nat_tests)
 
 nl_first : (f : Bool) (c : State) → c.pre ≡ false → put_all f (10 ∷ []) c ≡ put_all true (10 ∷ []) c
 unfolding put_all next blank is_space

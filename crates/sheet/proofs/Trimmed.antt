@@ -1,11 +1,7 @@
 -- What is trimmed off a sheet's output: only what stands after its written form.
 -- Assumes nothing.
-use Prim.Native.Nat.{ℕ, zero, suc, ◌≤◌, min}
-use native.Mathlib.Omega.{arith}
-use mathlib.Core.Path.{◌≡◌, refl, sym, ◌∙◌, ap, subst}
-use mathlib.Core.Bool.{false}
-use mathlib.Core.Logic.{◌⊎◌, inl, inr}
-use mathlib.Core.List.{List, [], ◌∷◌, ◌++◌, map, reverse, append_assoc, reverse-append, reverse-reverse}
+use Rattle.std.proofs.Common.{◌≡◌, refl, sym, ◌∙◌, ap, subst, ℕ, zero, suc, ◌≤◌, min, arith, false, ◌⊎◌, inl, inr, List, [], ◌∷◌, ◌++◌, map, reverse, append_assoc}
+use mathlib.Core.List.{reverse-append, reverse-reverse}
 use Rattle.text.specs.Words.{str, repeat, drop_while, trim_end_matches}
 use Rattle.text.specs.Chars.{is_space}
 use Rattle.text.specs.Decimal.{digits}

@@ -1,20 +1,14 @@
 -- The converter's loop, turn by turn, while the output is below its limit of 16,000 bytes.
 -- Assumes nothing.
-use Prim.Native.Nat.{ℕ, suc, ◌+◌, ◌-◌, ◌≤◌, ◌<◌}
-use native.Mathlib.Omega.{arith}
-use native.Mathlib.Nat.{suc-add, zero-add}
-use mathlib.Core.Path.{◌≡◌, refl, sym, ◌∙◌, ap, subst}
-use mathlib.Core.Bool.{Bool, true, false, not, cond}
-use mathlib.Core.Option.{Option, none, some}
-use mathlib.Core.List.{List, [], ◌∷◌, ◌++◌, reverse_aux}
-use borrow.Author.Tests.{not-true, lt-ltb}
-use lib.Dec.{eqb}
-use lib.ListN.{length, take, drop}
+use Rattle.std.proofs.Common.{◌≡◌, refl, sym, ◌∙◌, ap, subst, ℕ, suc, ◌+◌, ◌-◌, ◌≤◌, ◌<◌, arith, suc-add, zero-add, true, List, [], ◌∷◌, ◌++◌}
+use Rattle.std.proofs.Common.{lt-ltb, eqb, length, take, drop}
+use Rattle.std.proofs.lemmas.Bool.Decides.{nat_tests}
+use Rattle.std.proofs.Math.Option.{Option, none, some}
+use mathlib.Core.List.{reverse_aux}
 use lib.Seq.{take-append_seam, drop-append_seam}
-use Rattle.text.specs.Words.{case, is, starts, index, find}
+use Rattle.text.specs.Words.{case, is, index, find}
 use Rattle.text.specs.Utf8.{size}
 use Rattle.text.specs.Trim.{trim}
-use Rattle.text.proofs.Tests.{and_true}
 use Rattle.reference.specs.Unescape.{unescape}
 use Rattle.html.specs.State.{State, text, put_all}
 use Rattle.html.specs.Page.{Turn, read, refused, words, comment, a_tag, markup, turn, tag_read, inside, on_turn, loop}
@@ -43,9 +37,7 @@ loop_turn x s c h = rw (lt-ltb (size c.out) 16000 h)
 pub find_first : (b : ℕ) (u s : List ℕ) → eqb b b ≡ true → none_of (λ a. eqb a b) u ≡ true → index (b ∷ []) (u ++ (b ∷ s)) ≡ some (length u)
 unfolding index
 find_first b [] s r e = rw r
-find_first b (a ∷ u) s r e =
-    let f = and_true (not (eqb a b)) (none_of (λ a. eqb a b) u) e in
-    rw (not-true (eqb a b) f.0, find_first b u s r f.1)
+find_first b (a ∷ u) s r e = let i = find_first b u s r in grind (arith, nat_tests)
 
 turn_text : (u s : List ℕ) (c : State) → none_of (is "<") u ≡ true → turn (u ++ (60 ∷ s)) c ≡ markup (length u) (60 ∷ s) (words u c)
 unfolding turn
@@ -84,11 +76,7 @@ a_tag_moved n s c = go (find ">" s)
 
 markup_moved : (n : ℕ) (s : List ℕ) (c : State) → markup n s c ≡ moved n (markup 0 s c)
 unfolding markup
-markup_moved n s c = rw (comment_moved n s c, a_tag_moved n s c) (go (starts "<!--" s))
-  where
-    go : (b : Bool) → cond b (moved n (comment 0 s c)) (moved n (a_tag 0 s c)) ≡ moved n (cond b (comment 0 s c) (a_tag 0 s c))
-    go true = refl
-    go false = refl
+markup_moved n s c = rw (comment_moved n s c, a_tag_moved n s c) (grind (arith, nat_tests))
 
 pub loop_past : (n : ℕ) (u s : List ℕ) (c : State) → loop (length u + n) (u ++ s) c ≡ loop n s c
 unfolding loop

@@ -1,22 +1,18 @@
 -- The lines of a written form are its rows, with an empty line between two blocks.
 -- Assumes nothing.
-use Prim.Native.Nat.{ℕ, min}
-use native.Mathlib.Omega.{arith}
-use mathlib.Core.Path.{◌≡◌, refl, sym, ◌∙◌, ap}
-use mathlib.Core.Bool.{Bool, true, false, cond, not, ◌||◌}
-use mathlib.Core.List.{List, [], ◌∷◌, ◌++◌, map, append_assoc}
-use borrow.Author.Tests.{not-true, ne_eqb, eqb-true}
-use lib.Dec.{eqb}
+use Rattle.std.proofs.Common.{◌≡◌, refl, sym, ◌∙◌, ap, ℕ, min, arith, Bool, true, false, cond, not, List, [], ◌∷◌, ◌++◌, map, append_assoc, eqb}
+use Rattle.std.proofs.lemmas.Bool.Decides.{nat_tests}
+use borrow.Author.Tests.{not-true}
 use Rattle.text.specs.Words.{str, repeat, all, is_empty}
 use Rattle.text.specs.Chars.{is_space, is_digit}
-use Rattle.text.proofs.Tests.{and_true, within_true, false_true}
+use Rattle.text.proofs.Tests.{and_true, false_true}
 use Rattle.spans.specs.Spans.{spans}
 use Rattle.markdown.specs.Blocks.{before_lines, lines}
 use Rattle.sheet.specs.Tree.{Run, run, alone, with, items, Block}
 use Rattle.sheet.specs.Grammar as G
 use Rattle.sheet.specs.Grammar.{Many, IsRun, is_run, stop, more, Line}
 use Rattle.sheet.specs.Written.{span, written_run, written_runs, Row, head, text, item, place, rows_from, rows, lead, written_row, joined, written_block, written}
-use Rattle.sheet.proofs.Facts.{inked, no_space}
+use Rattle.sheet.proofs.Facts.{inked}
 use Rattle.sheet.proofs.AllChars.{all_append, all_weaker, Marks, all_run, all_head, all_item}
 use Rattle.sheet.proofs.Source.{inked_text}
 use Rattle.sheet.proofs.ReadBack.{all_fit, line_read}
@@ -32,14 +28,10 @@ not_break c = not (eqb c 10)
 
 inked_not_break : (x : ℕ) → inked x ≡ true → not_break x ≡ true
 unfolding is_space
-inked_not_break x e = go (eqb x 32) refl e
-  where
-    go : (b : Bool) → eqb x 32 ≡ b → (b || not (is_space x)) ≡ true → not_break x ≡ true
-    go true f h = ap not_break (eqb-true x 32 f)
-    go false f h = ap not (no_space x 10 refl (not-true (is_space x) h))
+inked_not_break x e = grind (arith, nat_tests)
 
 digit_not_break : (c : ℕ) → is_digit c ≡ true → not_break c ≡ true
-digit_not_break c e = let f = within_true 48 57 c e in ap not (ne_eqb c 10 (λ e. omega arith))
+digit_not_break c e = grind (arith, nat_tests)
 
 not_break_marks : Marks not_break
 not_break_marks =
@@ -78,9 +70,7 @@ good_runs {l = l} (G.line m f) =
 lines_nl : (s t : List ℕ) → all not_break s ≡ true → lines (s ++ (10 ∷ t)) ≡ s ∷ lines t
 unfolding lines
 lines_nl [] t e = refl
-lines_nl (c ∷ s) t e =
-    let f = and_true (not_break c) (all not_break s) e in
-    rw (not-true (eqb c 10) f.0, lines_nl s t f.1)
+lines_nl (c ∷ s) t e = let i = lines_nl s t in grind (arith, nat_tests)
 
 lines_last : (a : ℕ) (s : List ℕ) → all not_break (a ∷ s) ≡ true → lines (a ∷ s) ≡ (a ∷ s) ∷ []
 unfolding lines

@@ -1,16 +1,11 @@
 -- How many bytes are written: of a text, a run, a row, rows and blocks.
 -- Assumes nothing.
-use Prim.Native.Nat.{ℕ, ◌+◌, ◌≤◌}
-use native.Mathlib.Omega.{arith}
-use mathlib.Core.Path.{◌≡◌, sym}
-use mathlib.Core.Bool.{Bool, true, false, cond}
-use mathlib.Core.List.{List, [], ◌∷◌, ◌++◌, map}
-use lib.ListN.{length}
+use Rattle.std.proofs.Common.{◌≡◌, sym, ℕ, ◌+◌, ◌≤◌, arith, false, List, [], ◌∷◌, ◌++◌, map}
+use Rattle.std.proofs.lemmas.Bool.Decides.{nat_tests}
 use Rattle.text.specs.Words.{str, repeat, is_empty}
 use Rattle.text.specs.Utf8.{utf8, size}
 use Rattle.text.proofs.Tests.{false_true}
 use Rattle.text.proofs.Laws.{utf8_size, size_append}
-use Rattle.html.specs.State.{special}
 use Rattle.sheet.specs.Tree.{Kind, Run, run, Block}
 use Rattle.sheet.specs.Written.{escaped, sign, written_run, written_runs, Row, head, item, lead, written_row, joined, written_block, written}
 
@@ -18,11 +13,7 @@ use Rattle.sheet.specs.Written.{escaped, sign, written_run, written_runs, Row, h
 size_escaped : (t : List ℕ) → size t ≤ size (escaped t)
 unfolding escaped size
 size_escaped [] = omega arith
-size_escaped (x ∷ t) = go (special x) (size_escaped t)
-  where
-    go : (b : Bool) → size t ≤ size (escaped t) → length (utf8 x) + size t ≤ size (cond b (92 ∷ x ∷ []) (x ∷ []) ++ escaped t)
-    go true h = omega arith
-    go false h = omega arith
+size_escaped (x ∷ t) = let i = size_escaped t in grind (arith, nat_tests)
 
 pub size_run : (k : Kind) (t : List ℕ) → size (sign k) + size (sign k) + size t ≤ size (written_run (run k t))
 size_run k t =

@@ -1,6 +1,7 @@
 -- The sheet test as a call: document 01, "Sheet" and "Where each call says no".
 -- Assumes nothing.
-use Rattle.std.specs.Prelude.{ℕ, List, length}
+use Rattle.std.specs.Prelude.{ℕ, List, length, Some, None, Ok, Err, Result}
+use Rattle.std.specs.Prelude.{Option as Maybe}
 use Rattle.std.proofs.Math.Option.{Option, none, some}
 use Rattle.text.specs.Words.{◌>>=◌, ensure, case}
 use Rattle.text.specs.Utf8.{size, decode}
@@ -8,8 +9,8 @@ use Rattle.sheet.specs.Tree.{Block}
 use Rattle.sheet.specs.Reader.{read_page}
 use Rattle.sheet.specs.Written.{written}
 use Rattle.sheet.specs.Sheet.{small}
-use Rattle.sheet.specs.declared.Verdict.{Verdict}
-use Rattle.sheet.specs.declared.Verdict.TheVariants.{Yes, No, NotUtf8}
+use Rattle.sheet.specs.declared.count.Count.{Count}
+use Rattle.sheet.specs.declared.NotUtf8.{NotUtf8}
 
 -- the tree of a sheet
 unfoldable pub sheet : List ℕ → Option (List Block)
@@ -36,7 +37,7 @@ counts no_sheet = none
 counts (yes_sheet b c) = some (b, c)
 
 -- what the code's answer says
-abbrev pub answer : Verdict → Tested
-answer NotUtf8 = no_utf8
-answer No = no_sheet
-answer (Yes b c) = yes_sheet b c
+abbrev pub answer : Result (Maybe Count) NotUtf8 → Tested
+answer (Err e) = no_utf8
+answer (Ok None) = no_sheet
+answer (Ok (Some w)) = yes_sheet w.bytes w.chars

@@ -1,14 +1,11 @@
 -- The written forms that the code counts: each row with the byte 10 before it, each block with both.
 -- Assumes nothing.
-use Rattle.std.specs.Prelude.{ℕ, suc, ◌+◌, ◌≤◌, ◌≡◌, Bool, true, false, List, [], ◌∷◌, ◌++◌, length}
-use Rattle.std.proofs.Math.Option.{none, some}
+use Rattle.std.specs.Prelude.{ℕ, suc, ◌≡◌, List, [], ◌∷◌, ◌++◌}
 use Rattle.text.specs.Words.{str, repeat}
 use Rattle.sheet.specs.Tree.{Run, Mark, ul, ol, Items, Item, alone, with, Block}
-use Rattle.sheet.specs.Reader.{Answer}
 use Rattle.sheet.specs.Written.{Row, item, rows_from, lead, written_runs, written_row, written_block}
-use Rattle.sheet.specs.Says.{from}
-use Rattle.sheet.specs.declared.list.Opening.{Opening}
-use Rattle.sheet.specs.declared.list.Opening.TheVariants as O
+use Rattle.sheet.specs.declared.list.Mark as M
+use Rattle.sheet.specs.declared.list.Mark.TheVariants as V
 
 unfoldable pub led_rows : List Row → List ℕ
 led_rows [] = []
@@ -34,11 +31,9 @@ block_form b = str "\n\n" ++ written_block b
 abbrev pub row_lead : ℕ → ℕ → List ℕ
 row_lead d n = str "\n" ++ (repeat d "  " ++ lead n)
 
-abbrev pub mark_of : Bool → Mark
-mark_of true = ol
-mark_of false = ul
+abbrev pub mark_of : M.Mark → Mark
+mark_of V.Unordered = ul
+mark_of V.Ordered = ol
 
--- the opening tag of a list
-abbrev pub Begun : List ℕ → ℕ → Answer Mark → Opening → Type 0
-Begun page at none r = r ≡ O.No
-Begun page at (some x) r = (b : Bool) × (r ≡ O.List b) × (x ≡ (mark_of b, from page (at + 4))) × (at + 4 ≤ length page)
+abbrev pub IsMark : Mark → M.Mark → Type 0
+IsMark m n = m ≡ mark_of n

@@ -1,36 +1,37 @@
--- What the answers of the code say of the reader's: the code reads bytes from an offset on, the reader characters.
+-- What the answers of the code say of the reader's: the code reads bytes, the reader characters.
 -- Assumes nothing.
-use Rattle.std.specs.Prelude.{ℕ, ◌+◌, ◌≤◌, ◌<◌, ◌≡◌, Bool, true, false, List, length, drop}
+use Rattle.std.specs.Prelude.{ℕ, ◌≡◌, List, Some, None, MatchOption}
+use Rattle.std.specs.Prelude.{Option as Maybe}
+use Rattle.std.proofs.Common.{Bor}
 use Rattle.std.proofs.Math.Option.{none, some}
+use Rattle.text.specs.Words.{◌>>=◌}
 use Rattle.text.specs.Utf8.{chars}
-use Rattle.sheet.specs.declared.count.Read.{Read}
-use Rattle.sheet.specs.declared.count.Read.TheVariants.{At, No}
 use Rattle.sheet.specs.Reading.{strip}
-use Rattle.sheet.specs.Reader.{Answer, nl?}
+use Rattle.sheet.specs.declared.count.Count.{Count}
+use Rattle.sheet.specs.declared.reading.Read.{Read}
+use Rattle.sheet.specs.Reader.{Answer}
 use Rattle.sheet.specs.Weight.{weight}
 
--- the characters from an offset on
-abbrev pub from : List ℕ → ℕ → List ℕ
-from page at = chars (drop at page)
+-- what the code read where the reader read x: values that R relates, and the same characters left
+pub record Same {A B : Type 0} (R : A → B → Type 0) (x : A × List ℕ) (r : Read B) : Type 0 where
+  pub value : R x.0 r.value
+  pub rest : x.1 ≡ chars r.rest.now
 
--- `next` is where `rest` begins in the page, past `at`
-pub record Past (page : List ℕ) (at next : ℕ) (rest : List ℕ) : Type 0 where
-  pub starts : from page next ≡ rest
-  pub later : at < next
-  pub within : next ≤ length page
+-- the code has an answer where the reader has one, and it is the same
+abbrev pub Says : {A B : Type 0} → (A → B → Type 0) → Answer A → Maybe (Read B) → Type 0
+Says R none None = Unit {0}
+Says R none (Some r) = ⊥
+Says R (some x) None = ⊥
+Says R (some x) (Some r) = Same R x r
 
--- the code answers No where the reader has no answer, and else the offset after what was read and the counts of its written form
-abbrev pub Says : {A : Type 0} → (A → List ℕ) → List ℕ → ℕ → Answer A → Read → Type 0
-Says form page at none r = r ≡ No
-Says form page at (some x) r = (next : ℕ) × (r ≡ At next (weight (form x.0))) × Past page at next x.1
+-- a tag taken off the front of the bytes s
+abbrev pub Strips : List ℕ → List ℕ → Maybe (Bor (List ℕ)) → Type 0
+Strips tag s r = MatchOption r (strip tag (chars s) ≡ none) (λ rest. strip tag (chars s) ≡ some (chars rest.now))
 
--- a tag at an offset: what is left after it
-abbrev pub Tagged : List ℕ → List ℕ → ℕ → Bool → Type 0
-Tagged tag page at true = (strip tag (from page at) ≡ some (from page (at + length tag))) × (at ≤ length page → at + length tag ≤ length page)
-Tagged tag page at false = strip tag (from page at) ≡ none
+-- a tag, and a value that stands for it
+abbrev pub valued : {A : Type 0} → List ℕ → A → List ℕ → Answer A
+valued tag x s = strip tag s >>= λ r. some (x, r)
 
--- NL? at an offset: what is left after it
-pub record Skipped (page : List ℕ) (at next : ℕ) : Type 0 where
-  pub rest : nl? (from page at) ≡ from page next
-  pub later : at ≤ next
-  pub within : at ≤ length page → next ≤ length page
+-- the counts of a written form
+abbrev pub Weighs : {A : Type 0} → (A → List ℕ) → A → Count → Type 0
+Weighs form x w = w ≡ weight (form x)

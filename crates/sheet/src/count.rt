@@ -1,50 +1,38 @@
 // Counts of a written form.
-ghost use Rattle.std.specs.Prelude.{◌≡◌, ◌+◌, min};
+ghost use Rattle.std.specs.Prelude.{◌≡◌};
 ghost use Rattle.sheet.specs.Weight.{alike, added};
 
+use std::ops::Add;
+
 // How many bytes and characters a written form has, each at most MOST.
-#[derive(Clone, Copy)]
+#[derive(Clone, Copy, Debug, PartialEq, Eq)]
 pub struct Count {
     pub bytes: usize,
     pub chars: usize,
 }
 
-#[derive(Clone, Copy)]
-pub enum Read {
-    // What was read ends before next, and its written form has these counts.
-    At { next: usize, count: Count },
-    No,
-}
-
 // More than a sheet's written form can have of either, with what stands before its first block.
 const MOST: usize = 20_000;
 
-// a + b, at most MOST.
-pub fn sum(a: usize, b: usize) -> usize
-    ensures { result ≡ min (a + b) 20000 }
-{
-    if MOST <= a {
-        MOST
-    } else if MOST - a <= b {
-        MOST
-    } else {
-        a + b
+impl Count {
+    // n ASCII characters.
+    pub(crate) fn ascii(n: usize) -> Count
+        ensures { result ≡ alike n }
+    {
+        let n = n.min(MOST);
+        Count { bytes: n, chars: n }
     }
 }
 
-// n ASCII characters.
-pub fn ascii(n: usize) -> Count
-    ensures { result ≡ alike n }
-{
-    let k = sum(n, 0);
-    Count { bytes: k, chars: k }
-}
+impl Add for Count {
+    type Output = Count;
 
-pub fn add(a: Count, b: Count) -> Count
-    ensures { result ≡ added a b }
-{
-    Count {
-        bytes: sum(a.bytes, b.bytes),
-        chars: sum(a.chars, b.chars),
+    ghost add_gives = { λ a b r. r ≡ added a b };
+
+    fn add(self, other: Count) -> Count {
+        Count {
+            bytes: self.bytes.saturating_add(other.bytes).min(MOST),
+            chars: self.chars.saturating_add(other.chars).min(MOST),
+        }
     }
 }

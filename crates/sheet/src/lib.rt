@@ -1,131 +1,115 @@
 // The sheet test: document 01, "Sheet".
 #![tactic(auto)]
 
-ghost use Rattle.std.specs.Prelude.{◌≡◌, true, ◌-◌, min};
-ghost use Rattle.sheet.specs.Reader.{closed_by, headed, block};
+ghost use Rattle.std.specs.Prelude.{◌≡◌, true};
 ghost use Rattle.text.specs.Words.{all};
 ghost use Rattle.text.specs.Chars.{is_ascii};
-ghost use Rattle.sheet.specs.Says.{from, Says};
+ghost use Rattle.text.specs.Utf8.{chars};
+ghost use Rattle.sheet.specs.Reader.{closed_by, headed, block};
+ghost use Rattle.sheet.specs.Says.{Says, Weighs};
 ghost use Rattle.sheet.specs.Forms.{led, block_form};
 ghost use Rattle.sheet.specs.Weight.{judged};
 ghost use Rattle.sheet.specs.Calls.{sheet_call, answer};
 
 mod count;
+mod kind;
 mod line;
 mod list;
+mod passage;
+mod reading;
 
-use count::{Count, Read, add, ascii};
-use line::{line, nl};
+pub use count::Count;
+use line::line;
 use list::outermost;
+use reading::{Read, after_newline, strip};
 
-#[derive(Clone, Copy)]
-pub enum Verdict {
-    // A sheet, and how many bytes and characters its written form has.
-    Yes { bytes: usize, chars: usize },
-    // No sheet.
-    No,
-    // Refusal 1.
-    NotUtf8,
+// The page is not UTF-8.
+#[derive(Clone, Copy, Debug, PartialEq, Eq)]
+pub struct NotUtf8;
+
+// Its number among the refusals.
+impl From<NotUtf8> for u32 {
+    ghost from_gives = { λ _ n. n ≡ 1 };
+
+    fn from(_refusal: NotUtf8) -> u32 {
+        1
+    }
 }
 
 // A line and the tag after it, counted with the `lead` ASCII characters that its written form has before it.
-fn closed_by(page: &[u8], at: usize, tag: &[u8], lead: usize) -> Read
+fn closed_by<'a>(page: &'a [u8], tag: &[u8], lead: usize) -> Option<Read<'a, Count>>
     requires { all is_ascii tag.now ≡ true }
-    ensures { Says (led lead) page.now at (closed_by tag.now (from page.now at)) result }
+    ensures { Says (Weighs (led lead)) (closed_by tag.now (chars page.now)) result }
 {
-    let Read::At { next, count } = line(page, at) else {
-        return Read::No;
-    };
-    if !text::starts_with(page, next, tag) {
-        return Read::No;
-    }
-    Read::At {
-        next: next + tag.len(),
-        count: add(ascii(lead), count),
-    }
-}
-
-// The smaller of n and 3.
-fn level(n: u8) -> usize
-    ensures { result ≡ min n 3 }
-{
-    if n < 3 { n as usize } else { 3 }
+    let line = line(page)?;
+    let rest = strip(line.rest, tag)?;
+    Some(Read {
+        value: Count::ascii(lead) + line.value,
+        rest,
+    })
 }
 
 // A heading after its `<h`.
-fn heading(page: &[u8], at: usize) -> Read
-    ensures { Says block_form page.now at (headed (from page.now at)) result }
+fn heading(page: &[u8]) -> Option<Read<Count>>
+    ensures { Says (Weighs block_form) (headed (chars page.now)) result }
 {
-    let c = text::code_at(page, at);
-    if !text::within(49, 54, c) {
-        return Read::No;
+    let (&digit, after) = page.split_first()?;
+    if (digit < b'1') | (b'6' < digit) {
+        return None;
     }
-    let n = (c - 48) as u8;
-    if !text::starts_with(page, at + 1, b">") {
-        return Read::No;
-    }
-    let close = [60, 47, 104, 48 + n, 62];
-    closed_by(page, at + 2, &close, level(n) + 3)
+    let start = strip(after, b">")?;
+    let close = [b'<', b'/', b'h', digit, b'>'];
+    closed_by(start, &close, usize::from(digit - b'0').min(3) + 3)
 }
 
-// A block at `at`.
-fn block(page: &[u8], at: usize) -> Read
-    ensures { Says block_form page.now at (block (from page.now at)) result }
+// The block that the page begins with.
+fn block(page: &[u8]) -> Option<Read<Count>>
+    ensures { Says (Weighs block_form) (block (chars page.now)) result }
 {
-    if text::starts_with(page, at, b"<h") {
-        return heading(page, at + 2);
+    if let Some(rest) = strip(page, b"<h") {
+        return heading(rest);
     }
-    if text::starts_with(page, at, b"<p>") {
-        return closed_by(page, at + 3, b"</p>", 2);
+    if let Some(rest) = strip(page, b"<p>") {
+        return closed_by(rest, b"</p>", 2);
     }
-    let Read::At { next, count } = outermost(page, at) else {
-        return Read::No;
+    let list = outermost(page)?;
+    Some(Read {
+        value: Count::ascii(1) + list.value,
+        rest: list.rest,
+    })
+}
+
+// The counts of a sheet's written form, from those of all its blocks, each with two bytes 10 before it; none where they pass a limit.
+fn judged(blocks: Count) -> Option<Count>
+    ensures { result ≡ judged blocks }
+{
+    let written = Count {
+        bytes: blocks.bytes.saturating_sub(2),
+        chars: blocks.chars.saturating_sub(2),
     };
-    Read::At {
-        next,
-        count: add(ascii(1), count),
+    if written.bytes < 16_000 && written.chars <= 8_000 {
+        Some(written)
+    } else {
+        None
     }
 }
 
-// Without the two bytes 10 before the first block.
-fn without_lead(n: usize) -> usize
-    ensures { result ≡ n - 2 }
-{
-    if n < 2 { 0 } else { n - 2 }
-}
-
-// Whether a page whose blocks have these counts is a sheet.
-fn judged(count: Count) -> Verdict
-    ensures { result ≡ judged count }
-{
-    let bytes = without_lead(count.bytes);
-    let chars = without_lead(count.chars);
-    if bytes < 16_000 {
-        if chars <= 8_000 {
-            return Verdict::Yes { bytes, chars };
-        }
-    }
-    Verdict::No
-}
-
-// Whether the page is a sheet.
-pub fn sheet(page: &[u8]) -> Verdict
+// Whether the page is a sheet: how many bytes and characters its written form then has.
+pub fn sheet(page: &[u8]) -> Result<Option<Count>, NotUtf8>
     ensures { answer result ≡ sheet_call page.now }
 {
     if !text::is_utf8(page) {
-        return Verdict::NotUtf8;
+        return Err(NotUtf8);
     }
-    let mut pos = nl(page, 0);
-    let mut count = ascii(0);
-    loop {
-        let Read::At { next, count: more } = block(page, pos) else {
-            break;
-        };
-        pos = nl(page, next);
-        count = add(count, more);
+    let mut rest = after_newline(page);
+    let mut count = Count::ascii(0);
+    // Only a block that was read says where the next begins.
+    while let Some(read) = block(rest) {
+        rest = after_newline(read.rest);
+        count = count + read.value;
     }
-    if pos < page.len() {
-        return Verdict::No;
+    if !rest.is_empty() {
+        return Ok(None);
     }
-    judged(count)
+    Ok(judged(count))
 }

@@ -1,155 +1,131 @@
 // The lists of a sheet: list reader and item reader call each other, the remaining bytes and the levels falling.
-ghost use Rattle.std.specs.Prelude.{◌≡◌, ◌-◌, ◌≤◌, length};
-ghost use Rattle.text.specs.Decimal.{decimal};
+ghost use Rattle.std.specs.Prelude.{◌≡◌, ◌-◌, ◌≤◌};
+ghost use Rattle.std.specs.Option.{unwrap_or};
+ghost use Rattle.text.specs.Utf8.{chars};
 ghost use Rattle.sheet.specs.Tree.{ul, ol};
-ghost use Rattle.sheet.specs.Grammar.{closes};
+ghost use Rattle.sheet.specs.Grammar.{opens, closes};
 ghost use Rattle.sheet.specs.Reading.{◌<|>◌};
 ghost use Rattle.sheet.specs.Reader.{marked, item, read_list};
 ghost use Rattle.sheet.specs.Written.{place};
 ghost use Rattle.sheet.specs.Weight.{weight};
-ghost use Rattle.sheet.specs.Says.{from, Says, Tagged};
-ghost use Rattle.sheet.specs.Forms.{row_lead, item_form, list_form, mark_of, Begun};
+ghost use Rattle.sheet.specs.Says.{Says, Strips, Weighs};
+ghost use Rattle.sheet.specs.Forms.{row_lead, item_form, list_form, mark_of, IsMark};
 
-use crate::count::{Count, Read, add, ascii, sum};
-use crate::line::{line, nl};
+use crate::count::Count;
+use crate::line::line;
+use crate::reading::{Read, after_newline, strip, tagged};
 
 #[derive(Clone, Copy)]
-pub enum Opening {
-    List { ordered: bool },
-    No,
+pub enum Mark {
+    Unordered,
+    Ordered,
 }
 
-// The opening tag of a list at `at`.
-fn opening_at(page: &[u8], at: usize) -> Opening
-    ensures { Begun page.now at (marked ul (from page.now at) <|> marked ol (from page.now at)) result }
-{
-    if text::starts_with(page, at, b"<ul>") {
-        return Opening::List { ordered: false };
+impl Mark {
+    fn opens(self) -> &'static [u8]
+        ensures { result.now ≡ opens (mark_of self) }
+    {
+        match self {
+            Mark::Unordered => b"<ul>",
+            Mark::Ordered => b"<ol>",
+        }
     }
-    if text::starts_with(page, at, b"<ol>") {
-        return Opening::List { ordered: true };
+
+    // What follows the closing tag, where the page begins with it.
+    fn close(self, page: &[u8]) -> Option<&[u8]>
+        ensures { Strips (closes (mark_of self)) page.now result }
+    {
+        match self {
+            Mark::Unordered => strip(page, b"</ul>"),
+            Mark::Ordered => strip(page, b"</ol>"),
+        }
     }
-    Opening::No
+
+    // This mark, where the page begins with its opening tag. One line, as for a kind of run: a trait of both would be longer.
+    fn opening(self, page: &[u8]) -> Option<Read<Mark>>
+        ensures { Says IsMark (marked (mark_of self) (chars page.now)) result }
+    {
+        tagged(page, self.opens(), self)
+    }
+
+    // The place of the n-th item, where it is written.
+    fn place(self, n: usize) -> Option<usize>
+        ensures { unwrap_or result 0 ≡ place (mark_of self) n }
+    {
+        match self {
+            Mark::Unordered => None,
+            Mark::Ordered => Some(n),
+        }
+    }
 }
 
-// Whether the list's closing tag stands at `at`.
-fn is_end(page: &[u8], at: usize, ordered: bool) -> bool
-    ensures { Tagged (closes (mark_of ordered)) page.now at result }
+// The opening tag of a list, where the page begins with one.
+fn opening(page: &[u8]) -> Option<Read<Mark>>
+    ensures { Says IsMark (marked ul (chars page.now) <|> marked ol (chars page.now)) result }
 {
-    if ordered {
-        text::starts_with(page, at, b"</ol>")
-    } else {
-        text::starts_with(page, at, b"</ul>")
-    }
-}
-
-// An item's place, 0 where it has none.
-fn place(ordered: bool, n: usize) -> usize
-    ensures { result ≡ place (mark_of ordered) n }
-{
-    if ordered { n } else { 0 }
-}
-
-// How many decimal digits n has.
-fn digits(n: usize) -> usize
-    ensures { result ≡ length (decimal n) }
-{
-    let mut k: usize = 1;
-    let mut m = n;
-    while 10 <= m {
-        m = m / 10;
-        k += 1;
-    }
-    k
+    Mark::Unordered
+        .opening(page)
+        .or_else(|| Mark::Ordered.opening(page))
 }
 
 // What stands before an item's line: byte 10, two spaces for each list around its own, `- ` or its place and `. `.
-fn lead(depth: usize, place: usize) -> Count
+fn lead(depth: usize, place: Option<usize>) -> Count
     requires { depth ≤ 8 }
-    ensures { result ≡ weight (row_lead depth place) }
+    ensures { result ≡ weight (row_lead depth (unwrap_or place 0)) }
 {
-    if place == 0 {
-        return ascii(3 + depth * 2);
-    }
-    ascii(sum(digits(place), 3 + depth * 2))
+    let magnitude = place.and_then(|n| n.checked_ilog10());
+    let marker = magnitude.map_or(2, |k| k as usize + 3);
+    Count::ascii(1 + depth * 2 + marker)
 }
 
-// An item at `at`, in which lists may be opened `levels` deep.
+// The item that the page begins with, in which lists may be opened `levels` deep.
 #[cycle(item_list)]
-fn item(page: &[u8], at: usize, levels: usize, place: usize) -> Read
+fn item(page: &[u8], levels: usize, place: Option<usize>) -> Option<Read<Count>>
     requires { levels ≤ 7 }
-    ensures { Says (item_form (7 - levels) place) page.now at (item (read_list levels) (from page.now at)) result }
+    ensures { Says (Weighs (item_form (7 - levels) (unwrap_or place 0))) (item (read_list levels) (chars page.now)) result }
 {
-    if !text::starts_with(page, at, b"<li>") {
-        return Read::No;
+    let start = strip(page, b"<li>")?;
+    let line = line(start)?;
+    let own = lead(7 - levels, place) + line.value;
+    if let Some(rest) = strip(line.rest, b"</li>") {
+        return Some(Read { value: own, rest });
     }
-    let Read::At { next, count } = line(page, at + 4) else {
-        return Read::No;
-    };
-    let own = add(lead(7 - levels, place), count);
-    if text::starts_with(page, next, b"</li>") {
-        return Read::At {
-            next: next + 5,
-            count: own,
-        };
-    }
-    let start = nl(page, next);
-    let Read::At {
-        next: past,
-        count: sub,
-    } = list(page, start, levels)
-    else {
-        return Read::No;
-    };
-    let end = nl(page, past);
-    if text::starts_with(page, end, b"</li>") {
-        return Read::At {
-            next: end + 5,
-            count: add(own, sub),
-        };
-    }
-    Read::No
+    let sub = list(after_newline(line.rest), levels)?;
+    let rest = strip(after_newline(sub.rest), b"</li>")?;
+    Some(Read {
+        value: own + sub.value,
+        rest,
+    })
 }
 
-// A list at `at`, in which at most `levels` lists are open together, itself among them.
+// The list that the page begins with, in which at most `levels` lists are open together, itself among them.
 #[cycle(item_list)]
-fn list(page: &[u8], at: usize, levels: usize) -> Read
+fn list(page: &[u8], levels: usize) -> Option<Read<Count>>
     requires { levels ≤ 8 }
-    ensures { Says (list_form (8 - levels)) page.now at (read_list levels (from page.now at)) result }
+    ensures { Says (Weighs (list_form (8 - levels))) (read_list levels (chars page.now)) result }
 {
-    if levels == 0 {
-        return Read::No;
-    }
-    let Opening::List { ordered } = opening_at(page, at) else {
-        return Read::No;
-    };
-    let mut pos = nl(page, at + 4);
-    let mut count = ascii(0);
+    let below = levels.checked_sub(1)?;
+    let opening = opening(page)?;
+    let mark = opening.value;
+    let mut rest = after_newline(opening.rest);
+    let mut count = Count::ascii(0);
+    // A `for` that counts the items is no plainer: their number is asked behind the loop, which the item reader ends.
     let mut n: usize = 0;
-    loop {
-        let Read::At { next, count: more } = item(page, pos, levels - 1, place(ordered, n + 1))
-        else {
-            break;
-        };
-        pos = nl(page, next);
-        count = add(count, more);
+    while let Some(read) = item(rest, below, mark.place(n + 1)) {
+        rest = after_newline(read.rest);
+        count = count + read.value;
         n += 1;
     }
     if n == 0 {
-        return Read::No;
+        return None;
     }
-    if is_end(page, pos, ordered) {
-        return Read::At {
-            next: pos + 5,
-            count,
-        };
-    }
-    Read::No
+    let rest = mark.close(rest)?;
+    Some(Read { value: count, rest })
 }
 
-// A list that is a block, at `at`: at most 8 lists are open together.
-pub fn outermost(page: &[u8], at: usize) -> Read
-    ensures { Says (list_form 0) page.now at (read_list 8 (from page.now at)) result }
+// A list that is a block: at most 8 lists are open together.
+pub fn outermost(page: &[u8]) -> Option<Read<Count>>
+    ensures { Says (Weighs (list_form 0)) (read_list 8 (chars page.now)) result }
 {
-    list(page, at, 8)
+    list(page, 8)
 }

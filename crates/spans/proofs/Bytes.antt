@@ -13,8 +13,7 @@ use lib.Dec.{eqb, ltb}
 use borrow.Author.Tests.{eqb-true, eqb-false, ltb-true, ltb-false}
 use Rattle.text.specs.Words.{starts_with}
 use Rattle.text.specs.Utf8.{IsScalar, utf8, encode, char, chars, stray}
-use Rattle.text.specs.declared.Char.{Char}
-use Rattle.text.specs.declared.Char.TheVariants.{At, Bad, End}
+use Rattle.text.specs.Char.{Char, At, Bad, End}
 use Rattle.text.proofs.Tests.{decide}
 use Rattle.text.proofs.Utf8.{utf8_1, utf8_stray, sound, char_at}
 use Rattle.text.proofs.Laws.{chars_nil, chars_at, chars_bad, Long, utf8_long, utf8_size, encode_append, encode_chars, High, tails_high}

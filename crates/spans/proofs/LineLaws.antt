@@ -1,17 +1,17 @@
 -- The laws of `line_spans`: what `spans_in` stores for the bytes of a line are the records of its characters' spans.
 -- Assumes nothing.
 use mathlib.Core.Path.{◌≡◌, refl, sym, ap, ap₂, ◌∙◌}
-use Prim.Native.Nat.{ℕ, ◌+◌, ◌*◌, ◌^◌, ◌≤◌, ◌<◌}
+use Prim.Native.Nat.{ℕ, ◌+◌, ◌*◌, ◌^◌, ◌≤◌}
 use native.Mathlib.Nat.{add-zero}
 use native.Mathlib.Omega.{arith}
-use mathlib.Core.Bool.{Bool, false, ◌&&◌, or-false}
+use mathlib.Core.Bool.{Bool, true, false, ◌&&◌, or-false}
 use mathlib.Core.List.{List, [], ◌∷◌, ◌++◌, map}
 use lib.ListN.{length, length-map}
 use lib.Seq.{sets}
 use lib.Dec.{leb}
-use borrow.Author.Tests.{le-leb, lt-leb, leb-true}
+use borrow.Author.Tests.{le-leb, leb-true}
 use Rattle.text.specs.Utf8.{encode, chars}
-use Rattle.text.proofs.Tests.{and_false, and_true, on}
+use Rattle.text.proofs.Tests.{and_true, on}
 use Rattle.text.proofs.Laws.{size_chars}
 use Rattle.records.specs.Blocks.{Span}
 use Rattle.records.specs.Format.{span_form, encode_span, encode_spans}
@@ -42,13 +42,13 @@ pub line_is : (line : List ℕ) (at : ℕ) → length line ≤ 1048576 → at �
 unfolding line_spans
 line_is line at h k = rw (le-leb (length line) 1048576 h, le-leb at (2 ^ 40) k)
 
-pub line_long : (line : List ℕ) (at : ℕ) → 1048576 < length line → line_spans line at ≡ []
+line_read : (line : List ℕ) (at : ℕ) → leb (length line) 1048576 && leb at (2 ^ 40) ≡ true → line_spans line at ≡ spans (chars line)
 unfolding line_spans
-line_long line at h = rw (lt-leb (length line) 1048576 h)
+line_read line at h = rw h
 
-pub line_far : (line : List ℕ) (at : ℕ) → 2 ^ 40 < at → line_spans line at ≡ []
+pub line_none : (line : List ℕ) (at : ℕ) → leb (length line) 1048576 && leb at (2 ^ 40) ≡ false → line_spans line at ≡ []
 unfolding line_spans
-line_far line at h = rw (lt-leb at (2 ^ 40) h, and_false (leb (length line) 1048576) false refl)
+line_none line at h = rw h
 
 -- what holds of no spans and of those of a line that is not too long holds of `line_spans`
 line_by : (P : List Span → Type 0) (line : List ℕ) (at : ℕ) → P [] → (length line ≤ 1048576 → P (spans (chars line))) → P (line_spans line at)
@@ -75,7 +75,7 @@ module _ (line out : List ℕ) (at : ℕ) where
   unfolding encode_spans
   wrote_none e = rw e (sym (add-zero at), (refl, refl))
 
-  pub wrote_all : (out' : List ℕ) (next count : ℕ) → length line ≤ 1048576 → at ≤ 2 ^ 40
+  pub wrote_all : (out' : List ℕ) (next count : ℕ) → leb (length line) 1048576 && leb at (2 ^ 40) ≡ true
       → (next ≡ at + length (records_of false false (spans line))) × ((count ≡ length (spans line)) × (out' ≡ sets out at (records_of false false (spans line))))
       → Wrote line out out' at next count
-  wrote_all out' next count h k e = rw (line_is line at h k, ← line_records line, ← line_count line) e
+  wrote_all out' next count h e = rw (line_read line at h, ← line_records line, ← line_count line) e

@@ -173,10 +173,6 @@ label_made B I w out text len line x y mark l b i e pb pi pe inner out₁ q₁ q
 
 -- ---- the needs of the loop, from what holds at its head
 
-pub pend_small : (n : ℕ) → pend n ≤ 6 * n
-pend_small zero = omega arith
-pend_small (suc n) = omega arith
-
 module _ (B I : Bool) (line out₀ : List ℕ) (at₀ : ℕ) (w : State) (out : List ℕ) (W : Walking B I line out₀ at₀ w out) where
   pub bounds : at₀ + 6 * length line < 2 ^ 62 → (w.at + w.len < 2 ^ 62) × (w.count ≤ w.at) × (w.at + 6 * w.len + 6 * (length line - w.i) < 2 ^ 62)
   bounds h = (omega (arith, W.room), omega (arith, W.count, W.at, rec_count B I W.done), omega (arith, W.room))

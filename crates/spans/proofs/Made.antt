@@ -1,7 +1,7 @@
 -- What the code's steps store is what the turns of the walk say.
 -- Assumes nothing.
 use mathlib.Core.Path.{◌≡◌, refl, sym, ap, ap₂, ◌∙◌, subst}
-use Prim.Native.Nat.{ℕ, zero, suc, ◌+◌, ◌-◌, ◌*◌, ◌≤◌}
+use Prim.Native.Nat.{ℕ, zero, suc, ◌+◌, ◌-◌}
 use native.Mathlib.Nat.{add-zero}
 use native.Mathlib.Omega.{arith}
 use mathlib.Core.Bool.{Bool, true, false, ◌||◌}
@@ -13,9 +13,8 @@ use Rattle.records.specs.Blocks.{Span}
 use Rattle.records.specs.Format.{le32, span_map}
 use Rattle.spans.specs.Spans.{at, span, flush}
 use Rattle.spans.specs.Turn.{Turn, turn, record_of, records_of}
-use Rattle.spans.specs.State.{head, pend, moved_to, push_of, flush_by, flush_of, code_span, code_of, link_by, link_head, walk_of, turn_at, Made}
+use Rattle.spans.specs.State.{head, pend, moved_to, push_of, flush_by, flush_of, code_span, code_of, walk_of, turn_at, Made}
 use Rattle.spans.specs.declared.State.{State}
-use Rattle.spans.specs.declared.Written.{Written}
 use Rattle.spans.proofs.Search.{At}
 use Rattle.spans.proofs.Marks.{pushed, tick_some}
 use Rattle.records.proofs.Stores.{sets_append, gap}
@@ -124,10 +123,10 @@ module _ (B I : Bool) (w : State) (out text : List ℕ) (len : w.len ≡ length 
       e ∙ ap (λ (o : List ℕ). sets o w.at (head (map_of B I w) w.len)) f
       ∙ flush_bytes B I w base text w.len len
 
-  pub toggle_made : (f r : State) (more j : ℕ) (b i : Bool) → f ≡ flush_of w → r ≡ moved_to f j b i → j ≡ w.i + 1 + more
+  pub toggle_made : (f r : State) (more j : ℕ) (b i : Bool) → f ≡ flush_of w → r ≡ moved_to f j (record { bold = b; italic = i }) → j ≡ w.i + 1 + more
       → Made B I w out text (turn (flush (walk_of w text)) (at b i []) more) r out'
   toggle_made f r more j b i g h p = record {
-    state = h ∙ ap (λ (z : State). moved_to z j b i) (g ∙ flush_state B I w text len) ∙ same_state p refl refl refl refl refl;
+    state = h ∙ ap (λ (z : State). moved_to z j (record { bold = b; italic = i })) (g ∙ flush_state B I w text len) ∙ same_state p refl refl refl refl refl;
     bytes = toggle_bytes;
   }
 
@@ -151,54 +150,6 @@ module _ (B I : Bool) (w : State) (out text : List ℕ) (len : w.len ≡ length 
             ∙ ap (sets base w.at) (sym enc);
       }
 
--- ---- where a length is not 0
-
-pub flush_some : (n : ℕ) (w : State) → (n ≡ 0 → ⊥)
-    → ◌≡◌ {A = State} (record { i = w.i; at = w.at + 5 + w.len; len = 0; count = w.count + 1; bold = w.bold; italic = w.italic }) (flush_by n w)
-flush_some zero w f = absurd (f refl)
-flush_some (suc n) w f = refl
-
-pub head_some : (m n : ℕ) → (n ≡ 0 → ⊥) → m ∷ le32 n ≡ head m n
-head_some m zero f = absurd (f refl)
-head_some m (suc n) f = refl
-
-pub pend_some : (n : ℕ) → (n ≡ 0 → ⊥) → 5 + n ≡ pend n
-pend_some zero f = absurd (f refl)
-pend_some (suc n) f = refl
-
-pub link_some : (n m len : ℕ) (w : State) (label : Written) (next : ℕ) → (n ≡ 0 → ⊥)
-    → (link_by n w label next ≡ record { i = next; at = label.next; len = 0; count = (flush_of w).count + label.count; bold = w.bold; italic = w.italic })
-    × (link_head m len n ≡ head m len)
-link_some zero m len w label next f = absurd (f refl)
-link_some (suc n) m len w label next f = (refl, refl)
-
--- how far the end of pending text goes
-flush_few : (n : ℕ) (w : State) → n ≡ w.len → ((flush_by n w).count ≤ w.count + 1) × ((flush_by n w).at ≤ w.at + 6 * w.len)
-flush_few zero w e = (omega arith, omega arith)
-flush_few (suc n) w e = (omega arith, omega arith)
-
-pub flush_bound : (w f : State) → f ≡ flush_of w → (f.count ≤ w.count + 1) × (f.at ≤ w.at + 6 * w.len)
-flush_bound w f e = omega (arith, flush_few w.len w refl, ap (λ (z : State). z.count) e, ap (λ (z : State). z.at) e)
-
--- ---- a span of code, stored in one run or two
-
-module _ (B I : Bool) (w : State) (out out' : List ℕ) (m : ℕ) where
-  pub code_empty : (t : List ℕ) → length t ≡ 0 → m ≡ span_map (w.bold || B) (w.italic || I) true false → out' ≡ set out w.at m
-      → (w.at + 1 ≡ w.at + length (record_of B I (code_span w t))) × (out' ≡ sets out w.at (record_of B I (code_span w t)))
-  code_empty [] e f g = (refl, g ∙ ap (set out w.at) f)
-  code_empty (c ∷ t) e f g = absurd (omega arith)
-
-  pub code_some : (t out₁ : List ℕ) → (length t ≡ 0 → ⊥) → m ≡ span_map (w.bold || B) (w.italic || I) true true → out₁ ≡ sets out w.at (m ∷ le32 (length t))
-      → out' ≡ sets out₁ (w.at + 5) t
-      → (w.at + 5 + length t ≡ w.at + length (record_of B I (code_span w t))) × (out' ≡ sets out w.at (record_of B I (code_span w t)))
-  code_some [] out₁ ne f g h = absurd (ne refl)
-  code_some (c ∷ t) out₁ ne f g h = (
-    omega arith,
-    h ∙ ap (λ (o : List ℕ). sets o (w.at + 5) (c ∷ t)) g
-        ∙ sym (sets_append out w.at (m ∷ le32 (length (c ∷ t))) (c ∷ t))
-        ∙ ap (λ (z : ℕ). sets out w.at (z ∷ (le32 (length (c ∷ t)) ++ (c ∷ t)))) f,
-  )
-
 -- the code up to the next backtick, by its places in the line
 pub tick_made : (B I : Bool) (w : State) (out text : List ℕ) (len : w.len ≡ length text) (out' : List ℕ)
     → out' ≡ sets out w.at (head (map_of B I w) w.len)
@@ -217,7 +168,7 @@ tick_made B I w out text len out' d line e tick_here there f r out'' g h u =
 -- ---- an image
 
 pub image_made : (B I : Bool) (w : State) (out text : List ℕ) (p : ℕ × ℕ) (y : ℕ) → w.len ≡ length text → y ≡ w.i + 1 + 1 + p.1
-    → Made B I w out text (turn [] (walk_of w text) (p.1 + 2)) (moved_to w (y + 1) w.bold w.italic) out
+    → Made B I w out text (turn [] (walk_of w text) (p.1 + 2)) (moved_to w (y + 1) (record { bold = w.bold; italic = w.italic })) out
 unfolding records_of
 image_made B I w out text p y len e = record {
   state = same_state (omega arith) (sym (add-zero w.at)) len (sym (add-zero w.count)) refl refl;

@@ -135,20 +135,6 @@ module _ (line : List ℕ) (i : ℕ) where
           let p₁ = or_neither (eqb c 92) (eqb c 96) p₂.0 in
           λ w. rw (p₁.0, p₁.1, p₂.1, p₃.1, ne_eqb c 33 n)
 
--- ---- the loop that passes over text
-pub plain_start : (line : List ℕ) (i : ℕ) → i ≤ length line → PlainTo line i i
-plain_start line i h = record { low = omega arith; high = h; text = λ k a b. absurd (omega arith) }
-
-pub plain_next : (line : List ℕ) (i j : ℕ) → PlainTo line i j → j < length line → TextAt line j → PlainTo line i (j + 1)
-plain_next line i j v h t = record {
-  low = omega (arith, v.low);
-  high = omega arith;
-  text = λ k a b. ⊎_elim
-      (λ l. v.text k a (ltb-true k j l))
-      (λ l. let q : j ≡ k = omega (arith, ltb-false k j l) in subst (TextAt line) q t)
-      (decide (ltb k j));
-}
-
 -- the first byte and the others
 pub plain_all : (line : List ℕ) (i e : ℕ) → TextAt line i → PlainTo line (i + 1) e → (k : ℕ) → i ≤ k → k < e → TextAt line k
 plain_all line i e t v k a b = ⊎_elim

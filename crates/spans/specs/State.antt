@@ -1,32 +1,34 @@
 -- What the functions below `spans` answer and store.
 -- Assumes nothing.
-use Rattle.std.specs.Prelude.{◌≡◌, ℕ, zero, suc, ◌+◌, ◌-◌, ◌*◌, ◌^◌, ◌<◌, ◌≤◌, Bool, true, false, List, [], ◌∷◌, reverse, length, drop, get_or, ltb, if◌then◌else◌}
+use Rattle.std.specs.Prelude.{◌≡◌, ℕ, zero, suc, ◌+◌, ◌-◌, ◌*◌, ◌^◌, ◌<◌, ◌≤◌, Bool, true, false, ◌||◌, List, [], ◌∷◌, reverse, length, drop, get_or, ltb, if◌then◌else◌}
+use Rattle.std.specs.Prelude.{Some, None}
+use Rattle.std.specs.Prelude as code
 use Rattle.std.proofs.Math.Option.{Option, none, some}
 use Rattle.std.proofs.lemmas.List.Edits.{sets}
 use Rattle.text.specs.Words.{index}
 use Rattle.text.specs.Find.{found}
-use Rattle.text.specs.declared.Found.{Found}
 use Rattle.records.specs.Blocks.{Span}
 use Rattle.records.specs.Format.{le32}
 use Rattle.spans.specs.Spans.{Walk, at, span, kept, step, link, spans}
 use Rattle.spans.specs.Turn.{Turn, turned, record_of, records_of}
 use Rattle.spans.specs.declared.Link.{Link}
-use Rattle.spans.specs.declared.Link.TheVariants.{Ends, Nothing}
+use Rattle.spans.specs.declared.Seen.{Seen}
+use Rattle.spans.specs.declared.Emphasis.{Emphasis}
 use Rattle.spans.specs.declared.State.{State}
 use Rattle.spans.specs.declared.Written.{Written}
 
 -- ---- searches
 
 -- the first x of s at or after i
-unfoldable pub next_at : ℕ → List ℕ → ℕ → Found
+unfoldable pub next_at : ℕ → List ℕ → ℕ → code.Option ℕ
 next_at x s i = found i (index (x ∷ []) (drop i s))
 
 -- a link's places, counted from the start of the line
-abbrev pub placed : ℕ → Option (ℕ × ℕ) → Link
-placed from none = Nothing
-placed from (some p) = Ends (from + p.0) (from + p.1)
+abbrev pub placed : ℕ → Option (ℕ × ℕ) → code.Option Link
+placed from none = None
+placed from (some p) = Some (record { close = from + p.0; end = from + p.1 })
 
-abbrev pub link_at : List ℕ → ℕ → Link
+abbrev pub link_at : List ℕ → ℕ → code.Option Link
 link_at s from = placed from (link (drop from s))
 
 -- no x stands from `low` on below `high`: every search that starts there finds what the one from `high` on finds
@@ -34,16 +36,16 @@ pub record Clear (x : ℕ) (s : List ℕ) (low high : ℕ) : Type 0 where
   pub ordered : low ≤ high
   pub same : (j : ℕ) → low ≤ j → j ≤ high → next_at x s j ≡ next_at x s high
 
--- such a range for each mark that is searched for: what earlier searches of the same line have seen
-pub record Known (s seen : List ℕ) : Type 0 where
-  pub six : length seen ≡ 6
-  pub close : Clear 93 s (get_or seen 0 0) (get_or seen 1 0)
-  pub end : Clear 41 s (get_or seen 2 0) (get_or seen 3 0)
-  pub tick : Clear 96 s (get_or seen 4 0) (get_or seen 5 0)
+-- the same from `low` on, where that is below `high`
+abbrev pub Past : ℕ → List ℕ → ℕ → ℕ → Type 0
+Past x s low high = (j : ℕ) → low ≤ j → j ≤ high → next_at x s j ≡ next_at x s high
 
--- where a search from `from` on has to start
-unfoldable pub resumed : ℕ → ℕ → ℕ → ℕ
-resumed low high from = if ltb from low then from else if ltb high from then from else high
+-- what the searches of a line have read, where the walk goes on from `from`: up to their offsets the marks do not stand,
+-- and the `)` does not behind any `]` that is to come
+pub record Known (s : List ℕ) (from : ℕ) (seen : Seen) : Type 0 where
+  pub close : Past 93 s from seen.close
+  pub end : (k : ℕ) → from ≤ k → get_or s k 0 ≡ 93 → Past 41 s (k + 2) seen.end
+  pub tick : Past 96 s from seen.tick
 
 -- ---- steps
 
@@ -52,9 +54,13 @@ abbrev pub head : ℕ → ℕ → List ℕ
 head m zero = []
 head m (suc n) = m ∷ le32 (suc n)
 
+-- the emphasis at a state, with that around the line
+abbrev pub within : State → Emphasis → Emphasis
+within w around = record { bold = w.bold || around.bold; italic = w.italic || around.italic }
+
 -- the state at another byte, with another emphasis
-abbrev pub moved_to : State → ℕ → Bool → Bool → State
-moved_to w i b t = record { i = i; at = w.at; len = w.len; count = w.count; bold = b; italic = t }
+abbrev pub moved_to : State → ℕ → Emphasis → State
+moved_to w i e = record { i = i; at = w.at; len = w.len; count = w.count; bold = e.bold; italic = e.italic }
 
 -- the state after spans that end at another place, with no pending text
 abbrev pub ended_at : State → ℕ → ℕ → ℕ → State
@@ -90,7 +96,7 @@ pend (suc n) = 5 + suc n
 
 -- a link, whose label gave n spans
 abbrev pub link_by : ℕ → State → Written → ℕ → State
-link_by zero w label next = moved_to w next w.bold w.italic
+link_by zero w label next = record { i = next; at = w.at; len = w.len; count = w.count; bold = w.bold; italic = w.italic }
 link_by (suc n) w label next = ended_at w next label.next ((flush_of w).count + label.count)
 
 abbrev pub link_to : State → Written → ℕ → State
@@ -128,8 +134,8 @@ pub record Made (b i : Bool) (w : State) (out text : List ℕ) (s : Turn) (w' : 
       → out' ≡ sets (sets base w.at (records_of b i s.spans)) (w.at + length (records_of b i s.spans) + 5) (reverse s.walk.text)
 
 -- the turn at the state's place was made, whatever the pending text is
-abbrev pub Does : Bool → Bool → List ℕ → State → List ℕ → State → List ℕ → Type 0
-Does b i line w out w' out' = (text : List ℕ) → w.len ≡ length text → Made b i w out text (turn_at line w text) w' out'
+abbrev pub Does : Emphasis → List ℕ → State → List ℕ → State → List ℕ → Type 0
+Does around line w out w' out' = (text : List ℕ) → w.len ≡ length text → Made around.bold around.italic w out text (turn_at line w text) w' out'
 
 -- ---- bytes that are text
 
@@ -154,6 +160,7 @@ pub record PlainTo (line : List ℕ) (i r : ℕ) : Type 0 where
   pub text : (k : ℕ) → i ≤ k → k < r → TextAt line k
 
 -- ---- the records of spans, stored from `at` on
-abbrev pub Wrote : List Span → Bool → Bool → ℕ → List ℕ → List ℕ → Written → Type 0
-Wrote ss b i at out out' r =
-    (r.next ≡ at + length (records_of b i ss)) × ((r.count ≡ length ss) × (out' ≡ sets out at (records_of b i ss)))
+abbrev pub Wrote : List Span → Emphasis → ℕ → List ℕ → List ℕ → Written → Type 0
+Wrote ss around at out out' r =
+    (r.next ≡ at + length (records_of around.bold around.italic ss))
+    × ((r.count ≡ length ss) × (out' ≡ sets out at (records_of around.bold around.italic ss)))

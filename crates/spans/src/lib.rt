@@ -1,127 +1,106 @@
 // The spans of a line: bold, italic, code, links and images, read from the line's bytes and written as records.
 #![tactic(auto)]
 
-ghost use Rattle.std.specs.Prelude.{◌≡◌, ◌+◌, ◌*◌, ◌^◌, ◌-◌, ◌≤◌, ◌<◌, Bool, true, false, ◌||◌, length, set, get_or, take, drop, eqb};
+ghost use Rattle.std.specs.Prelude.{ℕ, ◌≡◌, ◌+◌, ◌*◌, ◌^◌, ◌-◌, ◌≤◌, ◌<◌, Bool, true, false, ◌||◌, List, length, set, get_or, take, drop};
 ghost use Rattle.std.proofs.lemmas.List.Edits.{sets};
 ghost use Rattle.records.specs.Format.{span_map, encode_spans};
 ghost use Rattle.spans.specs.Spans.{spans};
 ghost use Rattle.spans.specs.Line.{line_spans};
 ghost use Rattle.spans.specs.Turn.{record_of};
-ghost use Rattle.spans.specs.State.{next_at, link_at, Known, resumed, head, moved_to, ended_at, push_of, flush_of, code_span, code_of, pend, link_to, link_head, Ready, Does, BangAt, PlainIs, PlainTo, push_all_of, Wrote};
+ghost use Rattle.spans.specs.State.{next_at, link_at, Known, within, head, moved_to, ended_at, push_of, flush_of, code_span, code_of, pend, link_to, link_head, Ready, Does, BangAt, PlainIs, PlainTo, push_all_of, Wrote};
 
 use records::writer::{put, put_bytes, put_head, span_map};
-use text::{Found, byte};
+use text::byte;
 
-// The place of a link's `]`, and of its `)`.
+// Where a link's `]` stands, and where its `)` does.
 #[derive(Clone, Copy)]
-enum Link {
-    Ends(usize, usize),
-    Nothing,
+struct Link {
+    pub close: usize,
+    pub end: usize,
 }
 
-// What the searches of one line have seen: for `]`, `)` and the backtick, at places 0, 2 and 4, a range in which that mark does not stand.
-// A search starts after its range and notes the new one, so that no byte is searched twice for the same mark.
-// Where a search from `from` on has to start for the mark at place k.
-fn resume(seen: &[usize; 6], k: usize, from: usize) -> usize
-    requires { k < 5 }
-    ensures { result ≡ resumed (get_or seen.now k 0) (get_or seen.now (k + 1) 0) from }
-{
-    if from < seen[k] {
-        return from;
-    }
-    let high = seen[k + 1];
-    if high < from {
-        return from;
-    }
-    high
+// How far the searches of a line for `]`, for `)` and for the backtick have read: from where the walk is up to there the mark does not
+// stand. A search goes on from there, so that no byte is read twice for the same mark.
+#[derive(Clone, Copy, Default)]
+struct Seen {
+    pub close: usize,
+    pub end: usize,
+    pub tick: usize,
 }
 
-// Notes that the mark at place k does not stand from `low` on below `high`.
-fn note(seen: &mut [usize; 6], k: usize, low: usize, high: usize)
-    requires { k < 5 }
-    ensures { seen.new ≡ set (set seen.old k low) (k + 1) high }
+// The next backtick at or after `from`, where code ends. A backslash before it does not protect it.
+// Not inlined: the walk would lose its registers to the search, and a line of escapes take half as long again.
+#[inline(never)]
+fn find(s: &[u8], from: usize, seen: &mut Seen) -> Option<usize>
+    requires { Known s.now from seen.old }
+    ensures { (result ≡ next_at 96 s.now from) × Known s.now from seen.new }
 {
-    seen[k] = low;
-    seen[k + 1] = high;
-}
-
-// Whether code ends at i. A backslash before the backtick does not protect it.
-fn ends_code(s: &[u8], i: usize) -> bool
-    requires { i < length s.now }
-    ensures { result ≡ eqb (get_or s.now i 0) 96 }
-{
-    s[i] == b'`'
-}
-
-// The next backtick at or after `from`.
-fn find(s: &[u8], from: usize, seen: &mut [usize; 6]) -> Found
-    requires { Known s.now seen.old }
-    ensures { (result ≡ next_at 96 s.now from) × Known s.now seen.new }
-{
-    let mut i = resume(seen, 4, from);
-    let at = 'tick: loop {
-        if s.len() <= i {
-            note(seen, 4, from, i);
-            return Found::Nowhere;
-        }
-        if ends_code(s, i) {
-            break 'tick i;
-        }
-        i += 1;
-    };
-    note(seen, 4, from, at);
-    Found::Here(at)
+    let found = text::find(s, from.max(seen.tick), b'`');
+    seen.tick = found.unwrap_or(s.len());
+    found
 }
 
 // The link whose label starts at `from`: the search is left at the first bracket that is missing. 40 is `(`.
-fn find_link(s: &[u8], from: usize, seen: &mut [usize; 6]) -> Link
-    requires { Known s.now seen.old }
-    ensures { (result ≡ link_at s.now from) × Known s.now seen.new }
+// By a rule of the project the search is labelled loops, one for each bracket, and a loop's `break` yields where its bracket stands.
+fn find_link(s: &[u8], from: usize, seen: &mut Seen) -> Option<Link>
+    requires { Known s.now from seen.old }
+    ensures { (result ≡ link_at s.now from) × Known s.now from seen.new }
 {
     'link: loop {
-        let mut i = resume(seen, 0, from);
+        let mut i = from.max(seen.close);
         let close = 'close: loop {
             if s.len() <= i {
-                note(seen, 0, from, i);
-                break 'link Link::Nothing;
+                seen.close = i;
+                break 'link None;
             }
             if s[i] == b']' {
                 break 'close i;
             }
             i += 1;
         };
-        note(seen, 0, from, close);
+        seen.close = close;
         let target = 'paren: loop {
             if byte(s, close + 1) != 40 {
-                break 'link Link::Nothing;
+                break 'link None;
             }
             break 'paren close + 2;
         };
-        let mut j = resume(seen, 2, target);
+        let mut j = target.max(seen.end);
         let end = 'end: loop {
             if s.len() <= j {
-                note(seen, 2, target, j);
-                break 'link Link::Nothing;
+                seen.end = j;
+                break 'link None;
             }
             if s[j] == b')' {
                 break 'end j;
             }
             j += 1;
         };
-        note(seen, 2, target, end);
-        break 'link Link::Ends(close, end);
+        seen.end = end;
+        break 'link Some(Link { close, end });
     }
 }
 
-fn either(a: bool, b: bool) -> bool
-    ensures { result ≡ a || b }
-{
-    a | b
+// Whether a text is bold, and whether it is italic.
+#[derive(Clone, Copy, Default)]
+struct Emphasis {
+    pub bold: bool,
+    pub italic: bool,
+}
+
+impl Emphasis {
+    // The map byte of a span with it.
+    fn map(self, code: bool, text: bool) -> u8
+        ensures { result ≡ span_map self.bold self.italic code text }
+    {
+        span_map(self.bold, self.italic, code, text)
+    }
 }
 
 // Where the walk is: the next byte of the line; where the pending span's record starts, how long its text is, and how many spans
 // stand before it; and the emphasis. The pending text is stored behind a gap of five bytes for its head, which is stored when the span ends.
-#[derive(Clone, Copy)]
+// The emphasis is no field of type `Emphasis`: the compiler would keep the two in one number, and a line of escapes takes a fifth more.
+#[derive(Clone, Copy, Default)]
 struct State {
     pub i: usize,
     pub at: usize,
@@ -138,41 +117,221 @@ pub struct Written {
     pub count: usize,
 }
 
-// The state at another byte, with another emphasis.
-fn moved(w: State, i: usize, bold: bool, italic: bool) -> State
-    ensures { result ≡ moved_to w i bold italic }
-{
-    State {
-        i,
-        bold,
-        italic,
-        ..w
+// The line, the buffer and what the searches have read stay parameters: a struct of them, lent to each method, would not be plainer,
+// since each contract would have to say that the line and the buffer stay the same. The buffer comes whole, with an offset that may lie
+// past its end: a head is stored behind what follows it.
+impl State {
+    // The emphasis here, with that around the line.
+    fn emphasis(self, around: Emphasis) -> Emphasis
+        ensures { result ≡ within self around }
+    {
+        Emphasis {
+            bold: self.bold | around.bold,
+            italic: self.italic | around.italic,
+        }
     }
-}
 
-// The state after spans that end at `at`: no text is pending.
-fn ended(w: State, i: usize, at: usize, count: usize) -> State
-    ensures { result ≡ ended_at w i at count }
-{
-    State {
-        i,
-        at,
-        len: 0,
-        count,
-        ..w
+    // The state at another byte, with another emphasis.
+    fn moved(self, i: usize, emphasis: Emphasis) -> Self
+        ensures { result ≡ moved_to self i emphasis }
+    {
+        Self {
+            i,
+            bold: emphasis.bold,
+            italic: emphasis.italic,
+            ..self
+        }
     }
-}
 
-// A byte joins the pending text.
-fn push(w: State, c: u8, used: usize, out: &mut [u8]) -> State
-    requires { (w.at + w.len < 2 ^ 63) × (w.i + used < 2 ^ 63) }
-    ensures { (result ≡ push_of w used) × (out.new ≡ set out.old (w.at + 5 + w.len) c) }
-{
-    put(out, w.at + 5 + w.len, c);
-    State {
-        i: w.i + used,
-        len: w.len + 1,
-        ..w
+    // The state after spans that end at `at`: no text is pending.
+    fn ended(self, i: usize, at: usize, count: usize) -> Self
+        ensures { result ≡ ended_at self i at count }
+    {
+        Self {
+            i,
+            at,
+            len: 0,
+            count,
+            ..self
+        }
+    }
+
+    // A byte joins the pending text.
+    fn push(self, c: u8, used: usize, out: &mut [u8]) -> Self
+        requires { (self.at + self.len < 2 ^ 63) × (self.i + used < 2 ^ 63) }
+        ensures { (result ≡ push_of self used) × (out.new ≡ set out.old (self.at + 5 + self.len) c) }
+    {
+        put(out, self.at + 5 + self.len, c);
+        Self {
+            i: self.i + used,
+            len: self.len + 1,
+            ..self
+        }
+    }
+
+    // The bytes up to `end` join the pending text.
+    fn push_all(self, line: &[u8], end: usize, out: &mut [u8]) -> Self
+        requires { (self.at + self.len < 2 ^ 62) × ((self.i ≤ end) × ((end ≤ length line.now) × (length line.now < 2 ^ 62))) }
+        ensures { (result ≡ push_all_of self (end - self.i))
+            × (out.new ≡ sets out.old (self.at + 5 + self.len) (take (end - self.i) (drop self.i line.now))) }
+    {
+        let i = self.i;
+        put_bytes(out, self.at + 5 + self.len, &line[i..end]);
+        Self {
+            i: end,
+            len: self.len + (end - i),
+            ..self
+        }
+    }
+
+    // The pending text becomes a span, unless it is empty.
+    fn flush(self, around: Emphasis, out: &mut [u8]) -> Self
+        requires { (self.at + self.len < 2 ^ 63) × (self.count < 2 ^ 63) }
+        ensures { (result ≡ flush_of self)
+            × (out.new ≡ sets out.old self.at (head (span_map (self.bold || around.bold) (self.italic || around.italic) false true) self.len)) }
+    {
+        if self.len == 0 {
+            return self;
+        }
+        put_head(
+            out,
+            self.at,
+            self.emphasis(around).map(false, true),
+            self.len,
+        );
+        self.ended(self.i, self.at + 5 + self.len, self.count + 1)
+    }
+
+    // A span of code.
+    fn put_code(self, text: &[u8], next: usize, around: Emphasis, out: &mut [u8]) -> Self
+        requires { (self.at + length text.now < 2 ^ 62) × (self.count < 2 ^ 63) }
+        ensures { (result ≡ code_of self next around.bold around.italic text.now)
+            × (out.new ≡ sets out.old self.at (record_of around.bold around.italic (code_span self text.now))) }
+    {
+        let n = text.len();
+        let emphasis = self.emphasis(around);
+        let count = self.count + 1;
+        if n == 0 {
+            put(out, self.at, emphasis.map(true, false));
+            return self.ended(next, self.at + 1, count);
+        }
+        put_head(out, self.at, emphasis.map(true, true), n);
+        let start = self.at + 5;
+        put_bytes(out, start, text);
+        self.ended(next, start + n, count)
+    }
+
+    // Where the pending text ends.
+    fn text_end(self) -> usize
+        requires { self.at + self.len < 2 ^ 63 }
+        ensures { result ≡ self.at + pend self.len }
+    {
+        if self.len == 0 {
+            return self.at;
+        }
+        self.at + 5 + self.len
+    }
+
+    // The spans of a link's label stand at the end of the pending text, which they end if there are any.
+    fn join_label(self, label: Written, next: usize, around: Emphasis, out: &mut [u8]) -> Self
+        requires { (self.at + self.len < 2 ^ 63) × (self.count + label.count < 2 ^ 63) }
+        ensures { (result ≡ link_to self label next)
+            × (out.new ≡ sets out.old self.at (link_head (span_map (self.bold || around.bold) (self.italic || around.italic) false true) self.len label.count)) }
+    {
+        if label.count == 0 {
+            return Self { i: next, ..self };
+        }
+        let f = self.flush(around, out);
+        self.ended(next, label.next, f.count + label.count)
+    }
+
+    // A backslash: the next byte is text.
+    fn escape(self, line: &[u8], out: &mut [u8]) -> Self
+        requires { Ready line.now self × (get_or line.now self.i 0 ≡ 92) }
+        ensures { (around : Emphasis) → Does around line.now self out.old result out.new }
+    {
+        let j = self.i + 1;
+        if j < line.len() {
+            return self.push(line[j], 2, out);
+        }
+        self.push(b'\\', 1, out)
+    }
+
+    // A backtick: code up to the next one.
+    fn tick(self, line: &[u8], around: Emphasis, out: &mut [u8], seen: &mut Seen) -> Self
+        requires { Ready line.now self × ((get_or line.now self.i 0 ≡ 96) × Known line.now self.i seen.old) }
+        ensures { Does around line.now self out.old result out.new × Known line.now (self.i + 1) seen.new }
+    {
+        let from = self.i + 1;
+        let Some(end) = find(line, from, seen) else {
+            return self.push(b'`', 1, out);
+        };
+        let f = self.flush(around, out);
+        f.put_code(&line[from..end], end + 1, around, out)
+    }
+
+    // A star or two: the emphasis changes.
+    fn star(self, line: &[u8], around: Emphasis, out: &mut [u8]) -> Self
+        requires { Ready line.now self × (get_or line.now self.i 0 ≡ 42) }
+        ensures { Does around line.now self out.old result out.new }
+    {
+        let j = self.i + 1;
+        let f = self.flush(around, out);
+        let Self { bold, italic, .. } = self;
+        if line.len() <= j {
+            return f.moved(
+                j,
+                Emphasis {
+                    bold,
+                    italic: !italic,
+                },
+            );
+        }
+        if line[j] != b'*' {
+            return f.moved(
+                j,
+                Emphasis {
+                    bold,
+                    italic: !italic,
+                },
+            );
+        }
+        f.moved(
+            j + 1,
+            Emphasis {
+                bold: !bold,
+                italic,
+            },
+        )
+    }
+
+    // An exclamation mark before a bracket: an image is dropped.
+    fn bang(self, line: &[u8], out: &mut [u8], seen: &mut Seen) -> Self
+        requires { Ready line.now self × (BangAt line.now self.i × Known line.now self.i seen.old) }
+        ensures { ((around : Emphasis) → Does around line.now self out.old result out.new) × Known line.now (self.i + 1) seen.new }
+    {
+        let j = self.i + 1;
+        let Some(link) = find_link(line, j + 1, seen) else {
+            return self.push(b'!', 1, out);
+        };
+        Self {
+            i: link.end + 1,
+            ..self
+        }
+    }
+
+    // The turn at a mark but `[`. A match and no table: what the marks need differs.
+    fn turn(self, line: &[u8], around: Emphasis, out: &mut [u8], seen: &mut Seen) -> Self
+        requires { Ready line.now self × (PlainIs line.now self.i false × ((get_or line.now self.i 0 ≡ 91 → ⊥) × Known line.now self.i seen.old)) }
+        ensures { Does around line.now self out.old result out.new × Known line.now (self.i + 1) seen.new }
+    {
+        let i = self.i;
+        match line[i] {
+            b'\\' => self.escape(line, out),
+            b'`' => self.tick(line, around, out, seen),
+            b'*' => self.star(line, around, out),
+            _ => self.bang(line, out, seen),
+        }
     }
 }
 
@@ -193,211 +352,45 @@ fn plain_end(line: &[u8], i: usize) -> usize
     requires { i ≤ length line.now }
     ensures { PlainTo line.now i result }
 {
-    let mut j = i;
-    while j < line.len() {
+    for j in i..line.len() {
         if !is_plain(line, j) {
             return j;
         }
-        j += 1;
     }
-    j
+    line.len()
 }
 
-// The bytes up to `end` join the pending text.
-fn push_all(line: &[u8], w: State, end: usize, out: &mut [u8]) -> State
-    requires { (w.at + w.len < 2 ^ 62) × ((w.i ≤ end) × ((end ≤ length line.now) × (length line.now < 2 ^ 62))) }
-    ensures { (result ≡ push_all_of w (end - w.i)) × (out.new ≡ sets out.old (w.at + 5 + w.len) (take (end - w.i) (drop w.i line.now))) }
-{
-    let i = w.i;
-    put_bytes(out, w.at + 5 + w.len, &line[i..end]);
-    State {
-        i: end,
-        len: w.len + (end - i),
-        ..w
-    }
-}
-
-// The pending text becomes a span, unless it is empty.
-fn flush(w: State, bold: bool, italic: bool, out: &mut [u8]) -> State
-    requires { (w.at + w.len < 2 ^ 63) × (w.count < 2 ^ 63) }
-    ensures { (result ≡ flush_of w)
-        × (out.new ≡ sets out.old w.at (head (span_map (w.bold || bold) (w.italic || italic) false true) w.len)) }
-{
-    if w.len == 0 {
-        return w;
-    }
-    let map = span_map(either(w.bold, bold), either(w.italic, italic), false, true);
-    put_head(out, w.at, map, w.len);
-    ended(w, w.i, w.at + 5 + w.len, w.count + 1)
-}
-
-// A span of code.
-fn put_code(w: State, text: &[u8], next: usize, bold: bool, italic: bool, out: &mut [u8]) -> State
-    requires { (w.at + length text.now < 2 ^ 62) × (w.count < 2 ^ 63) }
-    ensures { (result ≡ code_of w next bold italic text.now)
-        × (out.new ≡ sets out.old w.at (record_of bold italic (code_span w text.now))) }
-{
-    let n = text.len();
-    let b = either(w.bold, bold);
-    let i = either(w.italic, italic);
-    let count = w.count + 1;
-    if n == 0 {
-        put(out, w.at, span_map(b, i, true, false));
-        return ended(w, next, w.at + 1, count);
-    }
-    put_head(out, w.at, span_map(b, i, true, true), n);
-    let start = w.at + 5;
-    put_bytes(out, start, text);
-    ended(w, next, start + n, count)
-}
-
-// Where the pending text ends.
-fn text_end(w: State) -> usize
-    requires { w.at + w.len < 2 ^ 63 }
-    ensures { result ≡ w.at + pend w.len }
-{
-    if w.len == 0 {
-        return w.at;
-    }
-    w.at + 5 + w.len
-}
-
-// A backslash: the next byte is text.
-fn escape(line: &[u8], w: State, out: &mut [u8]) -> State
-    requires { Ready line.now w × (get_or line.now w.i 0 ≡ 92) }
-    ensures { (b i : Bool) → Does b i line.now w out.old result out.new }
-{
-    let j = w.i + 1;
-    if j < line.len() {
-        return push(w, line[j], 2, out);
-    }
-    push(w, b'\\', 1, out)
-}
-
-// A backtick: code up to the next one.
-fn tick(
-    line: &[u8],
-    w: State,
-    bold: bool,
-    italic: bool,
-    out: &mut [u8],
-    seen: &mut [usize; 6],
-) -> State
-    requires { Ready line.now w × ((get_or line.now w.i 0 ≡ 96) × Known line.now seen.old) }
-    ensures { Does bold italic line.now w out.old result out.new × Known line.now seen.new }
-{
-    let from = w.i + 1;
-    let Found::Here(end) = find(line, from, seen) else {
-        return push(w, b'`', 1, out);
-    };
-    let f = flush(w, bold, italic, out);
-    put_code(f, &line[from..end], end + 1, bold, italic, out)
-}
-
-// A star or two: the emphasis changes.
-fn star(line: &[u8], w: State, bold: bool, italic: bool, out: &mut [u8]) -> State
-    requires { Ready line.now w × (get_or line.now w.i 0 ≡ 42) }
-    ensures { Does bold italic line.now w out.old result out.new }
-{
-    let j = w.i + 1;
-    let f = flush(w, bold, italic, out);
-    if line.len() <= j {
-        return moved(f, j, w.bold, !w.italic);
-    }
-    if line[j] != b'*' {
-        return moved(f, j, w.bold, !w.italic);
-    }
-    moved(f, j + 1, !w.bold, w.italic)
-}
-
-// An exclamation mark before a bracket: an image is dropped.
-fn bang(line: &[u8], w: State, out: &mut [u8], seen: &mut [usize; 6]) -> State
-    requires { Ready line.now w × (BangAt line.now w.i × Known line.now seen.old) }
-    ensures { ((b i : Bool) → Does b i line.now w out.old result out.new) × Known line.now seen.new }
-{
-    let j = w.i + 1;
-    let Link::Ends(_, end) = find_link(line, j + 1, seen) else {
-        return push(w, b'!', 1, out);
-    };
-    moved(w, end + 1, w.bold, w.italic)
-}
-
-// The turn at a mark but `[`.
-fn turn(
-    line: &[u8],
-    w: State,
-    bold: bool,
-    italic: bool,
-    out: &mut [u8],
-    seen: &mut [usize; 6],
-) -> State
-    requires { Ready line.now w × (PlainIs line.now w.i false × ((get_or line.now w.i 0 ≡ 91 → ⊥) × Known line.now seen.old)) }
-    ensures { Does bold italic line.now w out.old result out.new × Known line.now seen.new }
-{
-    let i = w.i;
-    match line[i] {
-        b'\\' => escape(line, w, out),
-        b'`' => tick(line, w, bold, italic, out, seen),
-        b'*' => star(line, w, bold, italic, out),
-        _ => bang(line, w, out, seen),
-    }
-}
-
-// The spans of a link's label stand at the end of the pending text, which they end if there are any.
-fn join_label(
-    w: State,
-    label: Written,
-    next: usize,
-    bold: bool,
-    italic: bool,
-    out: &mut [u8],
-) -> State
-    requires { (w.at + w.len < 2 ^ 63) × (w.count + label.count < 2 ^ 63) }
-    ensures { (result ≡ link_to w label next)
-        × (out.new ≡ sets out.old w.at (link_head (span_map (w.bold || bold) (w.italic || italic) false true) w.len label.count)) }
-{
-    if label.count == 0 {
-        return moved(w, next, w.bold, w.italic);
-    }
-    let f = flush(w, bold, italic, out);
-    ended(w, next, label.next, f.count + label.count)
-}
-
-// Writes the records of the spans of a line from `at` on, as far as there is room; the emphasis `bold` and `italic` stands around them.
-fn spans_in(line: &[u8], bold: bool, italic: bool, out: &mut [u8], at: usize) -> Written
+// Writes the records of the spans of a line from `at` on, as far as there is room, with an emphasis around them.
+fn spans_in(line: &[u8], around: Emphasis, out: &mut [u8], at: usize) -> Written
     requires { at + 6 * length line.now < 2 ^ 62 }
-    ensures { Wrote (spans line.now) bold italic at out.old out.new result }
+    ensures { Wrote (spans line.now) around at out.old out.new result }
 {
     let mut w = State {
-        i: 0,
         at,
-        len: 0,
-        count: 0,
-        bold: false,
-        italic: false,
+        ..State::default()
     };
-    let mut seen = [0usize; 6];
+    let mut seen = Seen::default();
+    // No iterator: how many bytes a turn reads, one or many, is known only once it has read them.
     while w.i < line.len() {
         let i = w.i;
         if is_plain(line, i) {
-            w = push_all(line, w, plain_end(line, i + 1), out);
+            w = w.push_all(line, plain_end(line, i + 1), out);
             continue;
         }
         if line[i] != b'[' {
-            w = turn(line, w, bold, italic, out, &mut seen);
+            w = w.turn(line, around, out, &mut seen);
             continue;
         }
         let from = i + 1;
-        let Link::Ends(close, end) = find_link(line, from, &mut seen) else {
-            w = push(w, b'[', 1, out);
+        let Some(link) = find_link(line, from, &mut seen) else {
+            w = w.push(b'[', 1, out);
             continue;
         };
-        let b = either(w.bold, bold);
-        let t = either(w.italic, italic);
-        let label = spans_in(&line[from..close], b, t, out, text_end(w));
-        w = join_label(w, label, end + 1, bold, italic, out);
+        let close = link.close;
+        let label = spans_in(&line[from..close], w.emphasis(around), out, w.text_end());
+        w = w.join_label(label, link.end + 1, around, out);
     }
-    let f = flush(w, bold, italic, out);
+    let f = w.flush(around, out);
     Written {
         next: f.at,
         count: f.count,
@@ -410,11 +403,8 @@ pub fn spans(line: &[u8], out: &mut [u8], at: usize) -> Written
         × ((result.count ≡ length (line_spans line.now at))
         × (out.new ≡ sets out.old at (encode_spans (line_spans line.now at)))) }
 {
-    if 1048576 < line.len() {
-        return Written { next: at, count: 0 };
+    if (line.len() <= 1048576) & (at <= 1099511627776) {
+        return spans_in(line, Emphasis::default(), out, at);
     }
-    if 1099511627776 < at {
-        return Written { next: at, count: 0 };
-    }
-    spans_in(line, false, false, out, at)
+    Written { next: at, count: 0 }
 }

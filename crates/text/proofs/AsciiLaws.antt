@@ -5,12 +5,13 @@ use mathlib.Core.Bool.{Bool, true, false, ◌&&◌}
 use mathlib.Core.List.{List, [], ◌∷◌, ◌++◌}
 use mathlib.Core.Logic.{⊎_elim}
 use mathlib.Core.Path.{◌≡◌, refl, sym, ap, ◌∙◌}
-use borrow.Author.Tests.{eq-eqb, ne_eqb, ltb-true, ltb-false, lt-ltb, le-leb, eqb-true}
+use borrow.Author.Tests.{eq-eqb, ne_eqb, eqb-false, ltb-true, ltb-false, lt-ltb, le-leb, eqb-true}
 use native.Mathlib.Numerals.{add-one}
 use native.Mathlib.Omega.{arith}
 use lib.Dec.{ltb, eqb, eqb-suc-zero}
 use lib.ListN.{length, get_or, take, drop}
 use lib.Seq.{drop-cons, get_or-take}
+use lib.Pointwise.{pointwise}
 use native.Mathlib.Nat.{add-zero}
 use Rattle.text.specs.Utf8.{encode, chars, char, size_of, size}
 use Rattle.text.specs.Words.{starts_with, all}
@@ -89,16 +90,14 @@ drop_chars (d ∷ ps) (b ∷ bs) a h =
     let e = eqb-true b d q.0 in
     rw (chars_ascii b bs (omega arith)) (drop_chars ps bs a.1 q.1)
 
--- ---- a comparison that goes byte by byte
-pub starts_next : (ps xs : List ℕ) (i j : ℕ) → j < length ps → i + j < length xs → get_or xs (i + j) 0 ≡ get_or ps j 0
-    → starts_with (drop j ps) (drop (i + j) xs) ≡ starts_with (drop (j + 1) ps) (drop (i + (j + 1)) xs)
-starts_next ps xs i j l h e =
-    let q : i + (j + 1) ≡ suc (i + j) = omega arith in
-    rw (drop-cons ps j 0 l, drop-cons xs (i + j) 0 h, eq-eqb (get_or xs (i + j) 0) (get_or ps j 0) e, q, add-one j)
+-- ---- a comparison of slices
+pub eqb_sym : (c d : ℕ) → eqb c d ≡ eqb d c
+eqb_sym c d = ⊎_elim (λ e. e ∙ sym (eq-eqb d c (sym (eqb-true c d e)))) (λ e. e ∙ sym (ne_eqb d c (λ q. eqb-false c d e (sym q)))) (decide (eqb c d))
 
-pub starts_other : (ps xs : List ℕ) (i j : ℕ) → j < length ps → i + j < length xs → (get_or xs (i + j) 0 ≡ get_or ps j 0 → ⊥)
-    → starts_with (drop j ps) (drop (i + j) xs) ≡ false
-starts_other ps xs i j l h n = rw (drop-cons ps j 0 l, drop-cons xs (i + j) 0 h, ne_eqb (get_or xs (i + j) 0) (get_or ps j 0) n)
+pub starts_is : (p s : List ℕ) → pointwise eqb p (take (length p) s) ≡ starts_with p s
+starts_is [] s = refl
+starts_is (d ∷ p) [] = refl
+starts_is (d ∷ p) (c ∷ s) = rw (eqb_sym c d) (ap (λ (b : Bool). eqb d c && b) (starts_is p s))
 
 pub starts_short : (ps xs : List ℕ) → length xs < length ps → starts_with ps xs ≡ false
 starts_short [] xs h = absurd (omega arith)
@@ -112,9 +111,6 @@ starts_nil (p ∷ ps) = sym (eqb-suc-zero (length ps))
 -- ---- a run of ASCII bytes
 pub low_ascii : (x : ℕ) → x < 0x80 → is_ascii x ≡ true
 low_ascii x h = lt-ltb x 0x80 h
-
-pub one_ascii : (s : List ℕ) (i : ℕ) → i < length s → get_or s i 0 < 0x80 → all is_ascii (take 1 (drop i s)) ≡ true
-one_ascii s i l h = rw (drop-cons s i 0 l, low_ascii (get_or s i 0) h)
 
 ascii_scalar : (x : ℕ) → x < 0x80 → is_scalar x ≡ true
 unfolding is_scalar

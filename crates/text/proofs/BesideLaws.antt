@@ -308,9 +308,6 @@ unfolding is_utf8
 fit_same s i j f h l c d g = walk s j l (clear_is s j d) (j - i) i (record { left = omega arith; far = f; within_j = h; free = clear_is s i c; fit = g })
 
 -- ---- the loop over a block
-pub fit_none : (s : List ℕ) (i : ℕ) → AllFit s i i
-fit_none s i m l h = absurd (omega arith)
-
 pub fit_more : (s : List ℕ) (i k : ℕ) → AllFit s i k → fits_at s k ≡ true → AllFit s i (k + 1)
 fit_more s i k f e m l h =
     ⊎_elim (λ z. f m l (ltb-true m k z))

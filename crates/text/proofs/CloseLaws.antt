@@ -19,7 +19,7 @@ use Rattle.text.proofs.Utf8.{utf8_1}
 use Rattle.text.proofs.Laws.{by_chars, chars_nil, chars_utf8, chars_bad, Tails, Long, utf8_long, lost_high}
 use Rattle.text.proofs.AsciiLaws.{chars_ascii, starts_chars, drop_chars}
 use Rattle.text.specs.Find.{found, closed, comment_end}
-use Rattle.text.specs.declared.Found.TheVariants.{Here, Nowhere}
+use Rattle.std.specs.Prelude.{Some, None}
 
 -- ---- an ASCII text that stands at the start is as long in bytes as in characters
 abbrev arrow : List ℕ
@@ -115,19 +115,19 @@ arrow_room (x ∷ s) n e = go (starts "-->" (x ∷ s)) refl (find "-->" s) (arro
 
 module _ (s : List ℕ) (i : ℕ) where
   -- the answer of the code's search for it
-  pub end_nowhere : found i (find "-->" (drop i s)) ≡ Nowhere → length s ≡ comment_end s i
+  pub end_nowhere : found i (find "-->" (drop i s)) ≡ None → length s ≡ comment_end s i
   unfolding comment_end
   end_nowhere = go (find "-->" (drop i s))
     where
-      go : (o : Option ℕ) → found i o ≡ Nowhere → length s ≡ case o (length s) (λ end. i + end + 3)
+      go : (o : Option ℕ) → found i o ≡ None → length s ≡ case o (length s) (λ end. i + end + 3)
       go none e = refl
       go (some n) e = let y : ◌≡◌ {A = ℕ} 0 1 = cc in absurd (omega arith)
 
-  pub end_here : (j : ℕ) → found i (find "-->" (drop i s)) ≡ Here j → (j + 3 ≡ comment_end s i) × (j + 3 ≤ length s)
+  pub end_here : (j : ℕ) → found i (find "-->" (drop i s)) ≡ Some j → (j + 3 ≡ comment_end s i) × (j + 3 ≤ length s)
   unfolding comment_end
   end_here j = go (find "-->" (drop i s)) (arrow_room (drop i s))
     where
-      go : (o : Option ℕ) → ((n : ℕ) → o ≡ some n → n + 3 ≤ length (drop i s)) → found i o ≡ Here j
+      go : (o : Option ℕ) → ((n : ℕ) → o ≡ some n → n + 3 ≤ length (drop i s)) → found i o ≡ Some j
           → (j + 3 ≡ case o (length s) (λ end. i + end + 3)) × (j + 3 ≤ length s)
       go none f e = let y : ◌≡◌ {A = ℕ} 0 1 = cc in absurd (omega arith)
       go (some n) f e = let q : i + n ≡ j = cc in (omega arith, omega (arith, f n refl, length-drop i s))

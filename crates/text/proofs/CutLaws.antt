@@ -13,8 +13,7 @@ use lib.Seq.{take-append_seam, drop-append-add, drop-cons}
 use Rattle.std.specs.Prelude.{if◌then◌else◌}
 use Rattle.text.specs.Utf8.{IsScalar, utf8, encode, tail, char, size_of, stray, chars, size}
 use Rattle.text.specs.Cut.{cut, splits, cut_end}
-use Rattle.text.specs.declared.Char.{Char}
-use Rattle.text.specs.declared.Char.TheVariants.{At, Bad, End}
+use Rattle.text.specs.Char.{Char, At, Bad, End}
 use Rattle.text.proofs.Tests.{decide, on, and_true, and_false, within_is}
 use Rattle.text.proofs.Utf8.{utf8_stray, char_at, char_utf8, sound}
 use Rattle.text.proofs.Laws.{by_chars, encode_append, encode_chars, chars_nil, chars_utf8, chars_bad, utf8_size, utf8_lead, utf8_tail, size_chars}
@@ -189,3 +188,16 @@ cut_end_is =
   where
     nil : length (encode (cut 0 [])) ≡ cut_end [] 0
     nil = refl
+
+-- ---- the first of the three places before n whose character goes on past it
+pub cut_at : (s : List ℕ) (n k : ℕ) → 1 ≤ k → k < 4 → ((m : ℕ) → 1 ≤ m → m < k → splits s n m ≡ false) → splits s n k ≡ true → n - k ≡ cut_end s n
+unfolding cut_end
+cut_at s n zero l b h e = absurd (omega arith)
+cut_at s n (suc zero) l b h e = rw e
+cut_at s n (suc (suc zero)) l b h e = rw (h 1 (omega arith) (omega arith), e)
+cut_at s n (suc (suc (suc zero))) l b h e = rw (h 1 (omega arith) (omega arith), h 2 (omega arith) (omega arith), e)
+cut_at s n (suc (suc (suc (suc k)))) l b h e = absurd (omega arith)
+
+pub cut_nowhere : (s : List ℕ) (n : ℕ) → ((m : ℕ) → 1 ≤ m → m < 4 → splits s n m ≡ false) → n ≡ cut_end s n
+unfolding cut_end
+cut_nowhere s n h = rw (h 1 (omega arith) (omega arith), h 2 (omega arith) (omega arith), h 3 (omega arith) (omega arith))

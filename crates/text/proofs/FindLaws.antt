@@ -1,6 +1,9 @@
 -- The laws of a search for one element, and of the parts before and after it: an ASCII character is found in the bytes where it is found in the characters.
 -- Assumes nothing.
-use Prim.Native.Nat.{ℕ, suc, ◌+◌, ◌-◌, ◌≤◌, ◌<◌}
+use Prim.Native.Nat.{ℕ, zero, suc, ◌+◌, ◌-◌, ◌≤◌, ◌<◌}
+use native.Mathlib.Nat.{add-zero}
+use Rattle.std.proofs.lemmas.List.{length-take-le}
+use Rattle.memchr.specs.Find.{Passes, Nowhere, NoneBefore, is_byte}
 use mathlib.Core.Bool.{Bool, true, false, cond, not, ◌&&◌}
 use mathlib.Core.Option.{Option, none, some}
 use mathlib.Core.List.{List, [], ◌∷◌, ◌++◌, append_cancel_left}
@@ -10,17 +13,17 @@ use borrow.Author.Tests.{eqb-true, eqb-false, eq-eqb, ne_eqb, ltb-true, ltb-fals
 use native.Mathlib.Omega.{arith}
 use lib.Dec.{ltb, eqb, leb-suc-suc}
 use lib.ListN.{length, get_or, take, drop, drop_of_length-le, length-drop, length-append}
-use lib.Seq.{drop-drop, drop-append_seam, take-append_seam, drop-append-add}
+use lib.Seq.{drop-drop, drop-append_seam, take-append_seam, drop-append-add, get_or-drop, get_or-take}
 use Rattle.text.specs.Utf8.{IsScalar, utf8, tail, char, stray, chars}
 use Rattle.std.specs.Prelude.{if◌then◌else◌}
 use Rattle.text.specs.Words.{◌>>=◌, index, take_while}
 use Rattle.text.specs.Run.{RunTo, other}
 use Rattle.text.specs.Find.{found, until, since}
-use Rattle.text.specs.declared.Found.TheVariants.{Here, Nowhere}
-use Rattle.text.specs.declared.Char.TheVariants.{Bad}
+use Rattle.std.specs.Prelude.{Some, None}
+use Rattle.text.specs.Char.{Bad}
 use Rattle.text.proofs.Tests.{decide, on, within_below}
 use Rattle.text.proofs.Utf8.{utf8_1}
-use Rattle.text.proofs.RunLaws.{at_stop, at_end}
+use Rattle.text.proofs.RunLaws.{at_start, past_one, at_stop, at_end}
 use Rattle.text.proofs.Laws.{by_chars, chars_nil, chars_utf8, chars_bad, chars_append, char_cut, Tails, Long, utf8_long, lost_high}
 
 pub until_since : (b : ℕ) (xs : List ℕ) → until b xs ++ since b xs ≡ xs
@@ -136,19 +139,19 @@ since_head b (x ∷ s) h = go (since_head b s) (eqb x b) refl h
     go ih false e h = ih h
 
 -- what an answer says of the search
-pub found_some : (i : ℕ) (o : Option ℕ) (k : ℕ) → found i o ≡ Here k → (n : ℕ) × (o ≡ some n) × (i + n ≡ k)
+pub found_some : (i : ℕ) (o : Option ℕ) (k : ℕ) → found i o ≡ Some k → (n : ℕ) × (o ≡ some n) × (i + n ≡ k)
 found_some i none k e = (0, cc, cc)
 found_some i (some n) k e = (n, refl, cc)
 
-pub found_none : (i : ℕ) (o : Option ℕ) → found i o ≡ Nowhere → o ≡ none
+pub found_none : (i : ℕ) (o : Option ℕ) → found i o ≡ None → o ≡ none
 found_none i none e = refl
 found_none i (some n) e = cc
 
-pub found_is : (s : List ℕ) (i b j : ℕ) → i + length (until b (drop i s)) ≡ j → j < length s → found i (index (b ∷ []) (drop i s)) ≡ Here j
+pub found_is : (s : List ℕ) (i b j : ℕ) → i + length (until b (drop i s)) ≡ j → j < length s → found i (index (b ∷ []) (drop i s)) ≡ Some j
 found_is s i b j e l =
     rw (index_until b (drop i s), lt-ltb (length (until b (drop i s))) (length (drop i s)) (rw (length-drop i s) (omega arith)), e)
 
-pub nowhere_is : (s : List ℕ) (i b : ℕ) → length s ≤ i + length (until b (drop i s)) → found i (index (b ∷ []) (drop i s)) ≡ Nowhere
+pub nowhere_is : (s : List ℕ) (i b : ℕ) → length s ≤ i + length (until b (drop i s)) → found i (index (b ∷ []) (drop i s)) ≡ None
 nowhere_is s i b l =
     rw (index_until b (drop i s), le-ltb (length (until b (drop i s))) (length (drop i s)) (rw (length-drop i s) (omega arith)))
 
@@ -171,17 +174,17 @@ unfolding other
 not_other b x e = rw (eq-eqb x b e)
 
 module _ (s : List ℕ) (i b j : ℕ) (h : RunTo (other b) s i j) where
-  pub run_found : j < length s → get_or s j 0 ≡ b → found i (index (b ∷ []) (drop i s)) ≡ Here j
+  pub run_found : j < length s → get_or s j 0 ≡ b → found i (index (b ∷ []) (drop i s)) ≡ Some j
   run_found l e = found_is s i b j (rw (until_run b (drop i s)) (at_stop (other b) s i j h l (not_other b (get_or s j 0) e))) l
 
-  pub run_nowhere : length s ≤ j → found i (index (b ∷ []) (drop i s)) ≡ Nowhere
+  pub run_nowhere : length s ≤ j → found i (index (b ∷ []) (drop i s)) ≡ None
   run_nowhere l = nowhere_is s i b (rw (until_run b (drop i s)) (let e = at_end (other b) s i j h l in omega arith))
 
-here_if : (i : ℕ) (t : Bool) (k j : ℕ) → found i (if t then some k else none) ≡ Here j → (t ≡ true) × (i + k ≡ j)
+here_if : (i : ℕ) (t : Bool) (k j : ℕ) → found i (if t then some k else none) ≡ Some j → (t ≡ true) × (i + k ≡ j)
 here_if i true k j e = (refl, cc)
 here_if i false k j e = (cc, cc)
 
-nowhere_if : (i : ℕ) (t : Bool) (k : ℕ) → found i (if t then some k else none) ≡ Nowhere → t ≡ false
+nowhere_if : (i : ℕ) (t : Bool) (k : ℕ) → found i (if t then some k else none) ≡ None → t ≡ false
 nowhere_if i true k e = cc
 nowhere_if i false k e = refl
 
@@ -192,7 +195,7 @@ pub record IsHere (s : List ℕ) (i b j : ℕ) : Type 0 where
   pub until_is : take (j - i) (drop i s) ≡ until b (drop i s)
   pub since_is : drop j s ≡ since b (drop i s)
 
-pub found_here : (s : List ℕ) (i b j : ℕ) → found i (index (b ∷ []) (drop i s)) ≡ Here j → IsHere s i b j
+pub found_here : (s : List ℕ) (i b j : ℕ) → found i (index (b ∷ []) (drop i s)) ≡ Some j → IsHere s i b j
 found_here s i b j e =
     let u = length (until b (drop i s)) in
     let p = here_if i (ltb u (length (drop i s))) u j (rw (index_until b (drop i s)) at e) in
@@ -207,8 +210,69 @@ found_here s i b j e =
       since_is = ap (λ (k : ℕ). drop k s) (sym q) ∙ since_drop b s i;
     }
 
-pub found_nowhere : (s : List ℕ) (i b : ℕ) → found i (index (b ∷ []) (drop i s)) ≡ Nowhere → since b (drop i s) ≡ []
+pub found_nowhere : (s : List ℕ) (i b : ℕ) → found i (index (b ∷ []) (drop i s)) ≡ None → since b (drop i s) ≡ []
 found_nowhere s i b e =
     let u = length (until b (drop i s)) in
     let f = ltb-false u (length (drop i s)) (nowhere_if i (ltb u (length (drop i s))) u (rw (index_until b (drop i s)) at e)) in
     sym (since_drop b s i) ∙ drop_of_length-le s {i = i + u} (omega (arith, f, length-drop i s))
+
+-- ---- a search for b from i on, by what a search through a slice of it answers: whether b stands at place k of what is left
+module _ (s : List ℕ) (i b : ℕ) where
+  abbrev pub At : ℕ → Type 0
+  At = Passes (is_byte b) (drop i s)
+
+  other_at : (k : ℕ) → (At k → ⊥) → other b (get_or s (i + k) 0) ≡ true
+  other_at k n = other_is b (get_or s (i + k) 0) (λ e. n (eq-eqb (get_or (drop i s) k 0) b (get_or-drop i s k 0 ∙ e)))
+
+  passed : (n : ℕ) → i + n ≤ length s → Nowhere At 0 n → RunTo (other b) s i (i + n)
+  passed zero l h = rw (add-zero i) (at_start (other b) s i (omega arith))
+  passed (suc n) l h =
+      let e : i + n + 1 ≡ i + suc n = omega arith in
+      let before = passed n (omega arith) (λ k a c. h k a (omega arith)) in
+      rw (← e) (past_one (other b) s i (i + n) before (omega arith) (other_at n (h n (omega arith) (omega arith))))
+
+  pub first_here : (n : ℕ) → Nowhere At 0 n → n < length (drop i s) → At n → Some (i + n) ≡ found i (index (b ∷ []) (drop i s))
+  first_here n h l e =
+      let k : i + n < length s = omega (arith, length-drop i s) in
+      sym (run_found s i b (i + n) (passed n (omega arith) h) k (sym (get_or-drop i s n 0) ∙ eqb-true (get_or (drop i s) n 0) b e))
+
+  pub first_nowhere : i ≤ length s → Nowhere At 0 (length (drop i s)) → None ≡ found i (index (b ∷ []) (drop i s))
+  first_nowhere l h =
+      let e = length-drop i s in
+      sym (run_nowhere s i b (i + length (drop i s)) (passed (length (drop i s)) (omega arith) h) (omega arith))
+
+  -- in the first 8 bytes, and in those behind them
+  module _ (near far : List ℕ) (front : near ≡ take 8 (drop i s)) (back : far ≡ drop 8 (drop i s)) (l : 8 ≤ length (drop i s)) where
+    at_near : (k : ℕ) → k < 8 → get_or near k 0 ≡ get_or (drop i s) k 0
+    at_near k h = rw front (get_or-take 8 (drop i s) k 0 h)
+
+    at_far : (k : ℕ) → get_or far k 0 ≡ get_or (drop i s) (8 + k) 0
+    at_far k = rw back (get_or-drop 8 (drop i s) k 0)
+
+    pub near_here : (n : ℕ) → NoneBefore (Passes (is_byte b) near) 0 (length near) n → Passes (is_byte b) near n → Some (i + n) ≡ found i (index (b ∷ []) (drop i s))
+    near_here n h e =
+        let room : n < 8 = omega (arith, h.high, ap length front, length-take-le 8 (drop i s) l) in
+        first_here n (λ k a c t. h.before k a c (rw (at_near k (omega arith)) t)) (omega arith) (rw (at_near n room) at e)
+
+    module _ (none : Nowhere (Passes (is_byte b) near) 0 (length near)) where
+      both : (m : ℕ) → Nowhere (Passes (is_byte b) far) 0 m → Nowhere At 0 (8 + m)
+      both m h k a c t =
+          ⊎_elim
+          (λ e.
+          let d = ltb-true k 8 e in
+          none k a (omega (arith, ap length front, length-take-le 8 (drop i s) l)) (rw (at_near k d) t))
+          (λ e.
+          let d = ltb-false k 8 e in
+          let q : 8 + (k - 8) ≡ k = omega arith in
+          h (k - 8) (omega arith) (omega arith) (rw (at_far (k - 8), q) t))
+          (decide (ltb k 8))
+
+      pub far_here : (m : ℕ) → NoneBefore (Passes (is_byte b) far) 0 (length far) m → Passes (is_byte b) far m → Some (i + 8 + m) ≡ found i (index (b ∷ []) (drop i s))
+      far_here m h e =
+          let q : i + 8 + m ≡ i + (8 + m) = omega arith in
+          rw q (first_here (8 + m) (both m h.before) (omega (arith, h.high, ap length back, length-drop 8 (drop i s))) (rw (at_far m) at e))
+
+      pub far_nowhere : i ≤ length s → Nowhere (Passes (is_byte b) far) 0 (length far) → None ≡ found i (index (b ∷ []) (drop i s))
+      far_nowhere k h =
+          let q : 8 + length far ≡ length (drop i s) = omega (arith, ap length back, length-drop 8 (drop i s)) in
+          first_nowhere k (rw q at (both (length far) h))

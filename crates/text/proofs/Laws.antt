@@ -14,9 +14,9 @@ use lib.ListN.{length, get_or, take, drop, length-append, length-drop, drop_of_l
 use lib.Seq.{drop-append_seam, drop-drop, take-add, take_at, take-suc, drop-cons}
 use Rattle.text.specs.Chars.{within, is_scalar}
 use Rattle.text.specs.Words.{all}
-use Rattle.text.specs.Utf8.{size, IsScalar, Scalars, utf8, encode, tail, char_of, char, size_of, char_size, char_code, stray, scan, chars, code_at, is_utf8, decode}
-use Rattle.text.specs.declared.Char.{Char}
-use Rattle.text.specs.declared.Char.TheVariants.{At, Bad, End}
+use Rattle.text.specs.Utf8.{size, IsScalar, Scalars, utf8, encode, tail, char_of, char, size_of, char_size, char_code, stray, scan, chars, code_at, is_utf8, decode, some_size}
+use Rattle.text.specs.Char.{Char, At, Bad, End}
+use Rattle.std.specs.Option.{unwrap_or}
 use Rattle.text.proofs.Tests.{decide, on, and_true, or_elim, or_right, within_true, within_is, within_below, within_above}
 use Rattle.text.proofs.Utf8.{utf8_1, utf8_2, utf8_3, utf8_4, utf8_stray, ranges, top, sound, char_at, char_1, char_utf8}
 
@@ -437,16 +437,12 @@ code_is s i l = by (char (drop i s)) refl
     by Bad e = code_bad s i e
     by End e = let d = rw e at (sound (drop i s)) in absurd (omega (arith, ap length d, length-drop i s))
 
--- ---- a size of 0 where no character starts, and of 1
-pub size_none : (x : Char) → 0 < size_of x → char_size x ≡ 0 → 1 ≡ size_of x
-size_none (At c n) l e = absurd (omega arith)
-size_none Bad l e = refl
-size_none End l e = absurd (omega arith)
-
-pub size_some : (x : Char) → (char_size x ≡ 0 → ⊥) → char_size x ≡ size_of x
-size_some (At c n) h = refl
-size_some Bad h = absurd (h refl)
-size_some End h = absurd (h refl)
+-- ---- a size of 1 where no character starts
+pub size_or_one : (x : Char) → 0 < size_of x → unwrap_or (some_size (char_size x)) 1 ≡ size_of x
+size_or_one (At c zero) l = absurd (omega arith)
+size_or_one (At c (suc n)) l = refl
+size_or_one Bad l = refl
+size_or_one End l = absurd (omega arith)
 
 pub record Turn (s : List ℕ) (i c : ℕ) : Type 0 where
   pub low : 1 ≤ length (utf8 c)

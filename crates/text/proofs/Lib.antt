@@ -1,6 +1,7 @@
 pub mod Lists
 pub mod Tests
 pub mod Utf8
+pub mod Sizes
 pub mod StartLaws
 pub mod Laws
 pub mod BesideLaws
@@ -14,5 +15,4 @@ pub mod CloseLaws
 pub mod SeekLaws
 pub mod CutLaws
 pub mod DecimalLaws
-pub mod Buffer
 pub mod Examples

@@ -11,14 +11,14 @@ use lib.ListN.{length, get_or, drop, length-drop}
 use Rattle.text.specs.Words.{◌>>=◌, starts_with, index}
 use Rattle.text.specs.Run.{SeekTo, other}
 use Rattle.text.specs.Find.{found}
-use Rattle.text.specs.declared.Found.TheVariants.{Here, Nowhere}
+use Rattle.std.specs.Prelude.{Some, None}
 use Rattle.text.proofs.Lists.{drop_next}
 use Rattle.text.proofs.Tests.{false_true, and_false}
 use Rattle.text.proofs.AsciiLaws.{starts_short}
 
 found_later : (i : ℕ) (o : Option ℕ) → found i (o >>= (λ n. some (suc n))) ≡ found (i + 1) o
 found_later i none = refl
-found_later i (some n) = ap Here (omega arith)
+found_later i (some n) = ap Some (omega arith)
 
 -- no place is left where fewer bytes are left than p has
 index_short : (d : ℕ) (p s : List ℕ) → length s < suc (length p) → index (d ∷ p) s ≡ none
@@ -26,7 +26,7 @@ unfolding index
 index_short d p [] h = refl
 index_short d p (c ∷ s) h = rw (starts_short (d ∷ p) (c ∷ s) h, index_short d p s (omega arith))
 
-pub none_left : (d : ℕ) (p s : List ℕ) (i : ℕ) → length s < i + suc (length p) → found i (index (d ∷ p) (drop i s)) ≡ Nowhere
+pub none_left : (d : ℕ) (p s : List ℕ) (i : ℕ) → length s < i + suc (length p) → found i (index (d ∷ p) (drop i s)) ≡ None
 none_left d p s i h = rw (index_short d p (drop i s) (omega (arith, length-drop i s)))
 
 module _ (p s : List ℕ) where
@@ -53,10 +53,14 @@ module _ (p s : List ℕ) where
     pub seek_not : (j : ℕ) (r : Bool) → SeekTo p s i j → j < length s → r ≡ starts_with p (drop j s) → r ≡ false → SeekTo p s i (j + 1)
     seek_not j r h l e f = seek_next j h l (sym e ∙ f)
 
-    pub seek_found : (j : ℕ) (r : Bool) → SeekTo p s i j → j < length s → r ≡ starts_with p (drop j s) → r ≡ true → Here j ≡ found i (index p (drop i s))
-    seek_found j r h l e f = sym (h.same ∙ rw (place_here j l (sym e ∙ f)) (ap Here (omega arith)))
+    pub seek_found : (j : ℕ) (r : Bool) → SeekTo p s i j → j < length s → r ≡ starts_with p (drop j s) → r ≡ true → Some j ≡ found i (index p (drop i s))
+    seek_found j r h l e f = sym (h.same ∙ rw (place_here j l (sym e ∙ f)) (ap Some (omega arith)))
 
 -- ---- three bytes at a place
+pub twice : (t u : Bool) → t && u ≡ t && t && u
+twice true u = refl
+twice false u = refl
+
 starts_at : (d : ℕ) (p s : List ℕ) (j : ℕ) → j < length s → starts_with (d ∷ p) (drop j s) ≡ eqb (get_or s j 0) d && starts_with p (drop (j + 1) s)
 starts_at d p s j l = rw (drop_next s j l)
 

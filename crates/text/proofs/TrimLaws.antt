@@ -14,8 +14,7 @@ use Rattle.text.specs.Words.{drop_while, trim_end_matches}
 use Rattle.text.specs.Chars.{within, is_space}
 use Rattle.text.specs.Utf8.{IsScalar, utf8, encode, char, stray, chars}
 use Rattle.text.specs.Trim.{trim_start, trim_end, start_of, end_of, is_space_of, space_at, space_before, trim}
-use Rattle.text.specs.declared.Char.{Char}
-use Rattle.text.specs.declared.Char.TheVariants.{At, Bad, End}
+use Rattle.text.specs.Char.{Char, At, Bad, End}
 use Rattle.text.proofs.Tests.{decide, on, and_true, within_below, within_above}
 use Rattle.text.proofs.Utf8.{utf8_1, utf8_2, utf8_3, utf8_stray, ranges, char_utf8, char_ascii}
 use Rattle.text.proofs.Laws.{advance, by_chars, encode_chars, encode_append, chars_nil, chars_utf8, chars_bad, chars_append, utf8_lead, utf8_size, chars_one}

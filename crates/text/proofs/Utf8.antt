@@ -13,8 +13,7 @@ use lib.Seq.{drop-append_seam, drop-cons, get_or-drop}
 use Rattle.std.specs.Prelude.{if◌then◌else◌}
 use Rattle.text.specs.Chars.{within}
 use Rattle.text.specs.Utf8.{IsScalar, utf8, tail, row, starts3, starts4, given, join, char_of, char, char_size, stray, FourAt}
-use Rattle.text.specs.declared.Char.{Char}
-use Rattle.text.specs.declared.Char.TheVariants.{At, Bad, End}
+use Rattle.text.specs.Char.{Char, At, Bad, End}
 use Rattle.text.specs.declared.decoding.Four.{Four}
 use Rattle.text.proofs.Tests.{decide, on, or_elim, or_right, row_true, row_is, within_true, within_is, within_below, within_above}
 

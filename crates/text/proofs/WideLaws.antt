@@ -14,8 +14,7 @@ use Rattle.text.specs.Chars.{within, is_space}
 use Rattle.text.specs.Utf8.{tail, starts3, given, join, char_of, char, char_size, size_of, stray, chars}
 use Rattle.text.specs.Trim.{trim_start, is_blank, wide_space, is_space_of, space_at}
 use Rattle.text.specs.Run.{RunTo}
-use Rattle.text.specs.declared.Char.{Char}
-use Rattle.text.specs.declared.Char.TheVariants.{At, Bad, End}
+use Rattle.text.specs.Char.{Char, At, Bad, End}
 use Rattle.text.proofs.Tests.{decide, on, false_true, and_true, and_false, or_elim, within_true, within_is, within_above}
 use Rattle.text.proofs.Utf8.{Three, value2, value3, value4, by_rows, char_drop}
 use Rattle.text.proofs.Laws.{advance, advance_ascii, advance_bad}

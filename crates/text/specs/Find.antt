@@ -1,14 +1,13 @@
 -- Where the code finds something: the answer of a search that started at an offset, and the parts of a text before and after it.
 -- Assumes nothing.
-use Rattle.std.specs.Prelude.{ℕ, ◌+◌, cond, List, [], ◌∷◌, eqb, length, drop, if◌then◌else◌}
+use Rattle.std.specs.Prelude.{ℕ, ◌+◌, cond, List, [], ◌∷◌, None, Some, eqb, length, drop, if◌then◌else◌}
+use Rattle.std.specs.Prelude as code
 use Rattle.std.proofs.Math.Option.{Option, none, some}
 use Rattle.text.specs.Words.{case, starts, find}
-use Rattle.text.specs.declared.Found.{Found}
-use Rattle.text.specs.declared.Found.TheVariants.{Here, Nowhere}
 
-abbrev pub found : ℕ → Option ℕ → Found
-found from none = Nowhere
-found from (some n) = Here (from + n)
+abbrev pub found : ℕ → Option ℕ → code.Option ℕ
+found from none = None
+found from (some n) = Some (from + n)
 
 -- what stands before the first b, and what stands from it on
 abbrev pub until : ℕ → List ℕ → List ℕ

@@ -1,6 +1,7 @@
 -- The words of all definitions, characters and their classes, UTF-8, and what is made of texts.
 pub mod Words
 pub mod Chars
+pub mod Char
 pub mod Utf8
 pub mod Trim
 pub mod Find

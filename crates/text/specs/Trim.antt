@@ -4,8 +4,7 @@ use Rattle.std.specs.Prelude.{ℕ, ◌-◌, Bool, false, ◌&&◌, ◌||◌, Lis
 use Rattle.text.specs.Words.{drop_while, trim_end_matches, trim_matches}
 use Rattle.text.specs.Chars.{within, is_space}
 use Rattle.text.specs.Utf8.{encode, chars, char}
-use Rattle.text.specs.declared.Char.{Char}
-use Rattle.text.specs.declared.Char.TheVariants.{At, Bad, End}
+use Rattle.text.specs.Char.{Char, At, Bad, End}
 
 abbrev pub trim_start : List ℕ → List ℕ
 trim_start s = drop_while is_space s

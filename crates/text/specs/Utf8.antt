@@ -3,12 +3,13 @@
 -- has its characters, and they encode to the same bytes; the bytes are UTF-8 where each of the characters is a scalar value.
 -- Assumes nothing.
 use Rattle.std.specs.Prelude.{ℕ, suc, zero, pred, ◌+◌, ◌*◌, ◌-◌, ◌/◌, ◌%◌, ◌≤◌, Bool, ◌&&◌, ◌||◌, List, [], ◌∷◌, ◌++◌, ◌⊎◌, ◌≡◌, leb, ltb, length, get_or, drop, if◌then◌else◌}
+use Rattle.std.specs.Prelude.{None, Some}
+use Rattle.std.specs.Prelude as code
 use Rattle.std.proofs.Math.Option.{Option, none, some}
 use Rattle.text.specs.Words.{all}
 use Rattle.text.specs.Chars.{within, is_scalar}
-use Rattle.text.specs.declared.Char.{Char}
+use Rattle.text.specs.Char.{Char, At, Bad, End}
 use Rattle.text.specs.declared.decoding.Four.{Four}
-use Rattle.text.specs.declared.Char.TheVariants.{At, Bad, End}
 
 -- a Unicode scalar value
 abbrev pub IsScalar : ℕ → Type 0
@@ -88,6 +89,11 @@ abbrev pub char_size : Char → ℕ
 char_size (At c n) = n
 char_size Bad = 0
 char_size End = 0
+
+-- a size, or none where it is 0
+abbrev pub some_size : ℕ → code.Option ℕ
+some_size zero = None
+some_size (suc n) = Some (suc n)
 
 -- the code of a byte that belongs to no character
 abbrev pub stray : ℕ → ℕ

@@ -3,6 +3,8 @@ ghost use Rattle.std.specs.Prelude.{◌+◌, ◌≤◌, ◌<◌, ◌≡◌, true
 ghost use Rattle.text.specs.Utf8.{is_utf8};
 ghost use Rattle.text.specs.Beside.{in_place, used, second, fits, AllFit, clear};
 
+// A byte b and x, y and a before it go through the tests as plain numbers: a struct of them would have to be made for each of 32 bytes.
+
 // Whether b is a tail where the bytes x, y and a before it ask for one, and nowhere else.
 fn is_in_place(x: u8, y: u8, a: u8, b: u8) -> bool
     ensures { result ≡ in_place x y a b }
@@ -30,23 +32,21 @@ fn is_second(a: u8, b: u8) -> bool
 }
 
 // Whether b may follow x, y and a.
+#[tactic(auto, unfolding(crate::specs::Beside::fits))]
 fn is_fit(x: u8, y: u8, a: u8, b: u8) -> bool
     ensures { result ≡ fits x y a b }
 {
     is_in_place(x, y, a, b) & is_used(b) & is_second(a, b)
 }
 
-// Whether the 32 bytes from i on fit, tested as in `is_ascii_block`.
+// Whether the 32 bytes from i on fit, tested as in `is_block`.
 fn is_fit_block(s: &[u8], i: usize) -> bool
     requires { (3 ≤ i) × (i + 32 ≤ length s.now) }
     ensures { result ≡ true → AllFit s.now i (i + 32) }
 {
     let mut fit = true;
-    let mut k = 0;
-    while k < 32 {
-        let j = i + k;
+    for j in i..i + 32 {
         fit = fit & is_fit(s[j - 3], s[j - 2], s[j - 1], s[j]);
-        k += 1;
     }
     fit
 }
@@ -64,15 +64,12 @@ fn last_clear(s: &[u8], e: usize) -> usize
     requires { (7 ≤ e) × (e ≤ length s.now) }
     ensures { ((result ≤ e) × (e ≤ result + 4)) × (e < result + 4 → clear s.now result ≡ true) }
 {
-    let mut j = e;
-    let end = e - 4;
-    while end < j {
+    for j in (e - 3..=e).rev() {
         if is_clear(s, j) {
             return j;
         }
-        j -= 1;
     }
-    j
+    e - 4
 }
 
 // An offset up to which whole characters stand from i on, so that s is UTF-8 from i on exactly if it is from there on. It is i where the next 32

@@ -2,32 +2,45 @@
 ghost use Rattle.std.specs.Prelude.{◌≡◌, length, take, drop};
 ghost use Rattle.text.specs.Utf8.{chars, encode};
 ghost use Rattle.text.specs.Cut.{cut, splits, cut_end};
+ghost use Rattle.text.specs.Part.{between, part_of, Inside};
 
 use crate::ascii::ascii_step;
 use crate::decoding::size_at;
+
+// Where a part of some bytes stands.
+#[derive(Clone, Copy)]
+pub struct Part {
+    pub start: usize,
+    pub end: usize,
+}
+
+impl Part {
+    // The bytes that stand there, as a part of s.
+    pub fn of<'a>(self, s: &'a [u8]) -> &'a [u8]
+        requires { Inside s.now self.start self.end }
+        ensures bytes { result.now ≡ between s.now self.start self.end }
+        ensures place { result ≡ part_of s.entry self }
+    {
+        &s[self.start..self.end]
+    }
+}
 
 // The first n bytes of s, or all of them.
 pub fn front(s: &[u8], n: usize) -> &[u8]
     ensures { result.now ≡ take n s.now }
 {
-    if s.len() <= n {
-        return s;
-    }
-    &s[..n]
+    s.get(..n).unwrap_or(s)
 }
 
 // What follows the first n bytes of s, or nothing.
 pub fn past(s: &[u8], n: usize) -> &[u8]
     ensures { result.now ≡ drop n s.now }
 {
-    if s.len() <= n {
-        let e = s.len();
-        return &s[e..];
-    }
-    &s[n..]
+    s.get(n..).unwrap_or(&[])
 }
 
 // Whether the character that starts k bytes before n goes on past n.
+#[tactic(auto, unfolding(crate::specs::Cut::splits))]
 fn is_split(s: &[u8], n: usize, k: usize) -> bool
     ensures { result ≡ splits s.now n k }
 {
@@ -41,14 +54,10 @@ fn is_split(s: &[u8], n: usize, k: usize) -> bool
 fn cut_end(s: &[u8], n: usize) -> usize
     ensures { result ≡ cut_end s.now n }
 {
-    if is_split(s, n, 1) {
-        return n - 1;
-    }
-    if is_split(s, n, 2) {
-        return n - 2;
-    }
-    if is_split(s, n, 3) {
-        return n - 3;
+    for k in 1..4 {
+        if is_split(s, n, k) {
+            return n - k;
+        }
     }
     n
 }
@@ -63,7 +72,8 @@ pub fn cut_len(s: &[u8], n: usize) -> usize
     cut_end(s, n)
 }
 
-// The first n characters of s. Where no more bytes are left than characters may follow, all of s is taken.
+// The first n characters of s. Where no more bytes are left than characters may follow, all of s is taken. A turn goes
+// on by a character or by 8 bytes, so that a `for` over either would be no plainer.
 pub fn first(s: &[u8], n: usize) -> &[u8]
     ensures { result.now ≡ encode (take n (chars s.now)) }
 {

@@ -1,148 +1,111 @@
 // Bytes searched and compared.
 ghost use Rattle.std.specs.Prelude.{◌+◌, ◌≤◌, ◌≡◌, true, ◌&&◌, [], ◌∷◌, length, take, drop};
-ghost use Rattle.text.specs.Words.{all, starts_with, index};
-ghost use Rattle.text.specs.Run.{RunTo, SeekTo, other};
+ghost use Rattle.text.specs.Words.{str, starts, starts_with, index, find};
+ghost use Rattle.text.specs.Run.{SeekTo, other};
 ghost use Rattle.text.specs.Find.{found, comment_end};
+ghost use Rattle.memchr.specs.Find.{IsFirstByte, is_byte};
 
-use crate::Found;
-
-// Whether the 32 bytes from i on are other bytes than b, tested as in `is_ascii_block`.
-fn is_other_block(s: &[u8], i: usize, b: u8) -> bool
-    requires { i + 32 ≤ length s.now }
-    ensures { result ≡ all (other b) (take 32 (drop i s.now)) }
+// The first b of s.
+fn position_of(s: &[u8], b: u8) -> Option<usize>
+    ensures { IsFirstByte (is_byte b) s.now result }
 {
-    let mut others = true;
-    let mut k = 0;
-    while k < 32 {
-        others = others & (s[i + k] != b);
-        k += 1;
-    }
-    others
+    s.iter().position(|x| *x == b)
 }
 
-// Where the blocks of 32 bytes from i on without b end.
-fn other_blocks(s: &[u8], i: usize, b: u8) -> usize
-    requires { i ≤ length s.now }
-    ensures { RunTo (other b) s.now i result }
-{
-    let mut j = i;
-    while 32 <= s.len() - j {
-        if !is_other_block(s, j, b) {
-            return j;
-        }
-        j += 32;
-    }
-    j
-}
-
-// The first b of s at or after i. Most that is looked for is near, so the first 8 bytes are looked at one by one.
-pub fn find(s: &[u8], i: usize, b: u8) -> Found
+// The first b of s at or after i. Most that is looked for is near, so the first 8 bytes are looked at one by one:
+// `memchr` alone takes 58 instructions in place of 25 where it is the fourth byte.
+pub fn find(s: &[u8], i: usize, b: u8) -> Option<usize>
     ensures { result ≡ found i (index (b ∷ []) (drop i s.now)) }
 {
-    if s.len() <= i {
-        return Found::Nowhere;
+    let rest = s.get(i..)?;
+    let Some((near, far)) = rest.split_first_chunk::<8>() else {
+        return Some(i + position_of(rest, b)?);
+    };
+    if let Some(n) = position_of(near, b) {
+        return Some(i + n);
     }
-    let mut j = i;
-    let mut k: usize = 0;
-    while k < 8 {
-        if s.len() <= j {
-            return Found::Nowhere;
-        }
-        if s[j] == b {
-            return Found::Here(j);
-        }
-        j += 1;
-        k += 1;
-    }
-    let mut e = other_blocks(s, j, b);
-    while e < s.len() {
-        if s[e] == b {
-            return Found::Here(e);
-        }
-        e += 1;
-    }
-    Found::Nowhere
+    Some(i + 8 + memchr::memchr(b, far)?)
 }
 
-// Whether a b c stand at none of the 32 places from i on, tested as in `is_ascii_block`. Asked only where i is a multiple of 8, so that a near place
+// Whether `-->` stands at none of the 32 places from i on, tested as in `is_block`. Asked only where i is a multiple of 8, so that a near place
 // is found without it.
-fn is_free_block(s: &[u8], i: usize, a: u8, b: u8, c: u8) -> bool
+fn is_free_block(s: &[u8], i: usize) -> bool
     requires { i + 34 ≤ length s.now }
-    ensures { result ≡ true → SeekTo (a ∷ b ∷ c ∷ []) s.now i (i + 32) }
+    ensures { result ≡ true → SeekTo (str "-->") s.now i (i + 32) }
 {
     if i % 8 != 0 {
         return false;
     }
     let mut free = true;
-    let mut k = 0;
-    while k < 32 {
+    for k in 0..32 {
         let j = i + k;
-        free = free & ((s[j] != a) | (s[j + 1] != b) | (s[j + 2] != c));
-        k += 1;
+        free = free & ((s[j] != b'-') | (s[j + 1] != b'-') | (s[j + 2] != b'>'));
     }
     free
 }
 
-// Whether a b c stand at i.
-fn is_here(s: &[u8], i: usize, a: u8, b: u8, c: u8) -> bool
+// Whether `-->` stands at i.
+fn is_close(s: &[u8], i: usize) -> bool
     requires { i + 3 ≤ length s.now }
-    ensures { result ≡ starts_with (a ∷ b ∷ c ∷ []) (drop i s.now) }
+    ensures { result ≡ starts "-->" (drop i s.now) }
 {
-    (s[i] == a) & (s[i + 1] == b) & (s[i + 2] == c)
+    (s[i] == b'-') & (s[i + 1] == b'-') & (s[i + 2] == b'>')
 }
 
-// Whether x is none of a, b and c. Where the byte after the next is none of them, a b c stand at none of the three places that reach it.
-fn is_none_of(x: u8, a: u8, b: u8, c: u8) -> bool
-    ensures { result ≡ other a x && other b x && other c x }
+// Whether x is no byte of `-->`. Where the byte after the next is none, it stands at none of the three places that reach it.
+#[tactic(auto, unfolding(crate::specs::Run::other))]
+fn is_outside(x: u8) -> bool
+    ensures { result ≡ other 45 x && other 62 x }
 {
-    (x != a) & (x != b) & (x != c)
+    (x != b'-') & (x != b'>')
 }
 
-// `find3` near the end of s, where no block is left.
-fn find3_near(s: &[u8], i: usize, a: u8, b: u8, c: u8) -> Found
+// `close` near the end of s, where no block is left. Each turn goes on by 1 or 3, so that a `for` over the places would be no plainer.
+fn close_near(s: &[u8], i: usize) -> Option<usize>
     requires { i ≤ length s.now }
-    ensures { result ≡ found i (index (a ∷ b ∷ c ∷ []) (drop i s.now)) }
+    ensures { result ≡ found i (find "-->" (drop i s.now)) }
 {
     let mut j = i;
     while 3 <= s.len() - j {
-        if is_none_of(s[j + 2], a, b, c) {
+        if is_outside(s[j + 2]) {
             j += 3;
             continue;
         }
-        if is_here(s, j, a, b, c) {
-            return Found::Here(j);
+        if is_close(s, j) {
+            return Some(j);
         }
         j += 1;
     }
-    Found::Nowhere
+    None
 }
 
-// The first place of s at or after i where a b c stand.
-fn find3(s: &[u8], i: usize, a: u8, b: u8, c: u8) -> Found
-    ensures { result ≡ found i (index (a ∷ b ∷ c ∷ []) (drop i s.now)) }
+// Where the first `-->` of s at or after i stands. No `memmem::find`: it takes 1.5 times the instructions where comments are empty, and 4.7 times
+// those on `--x>` again and again. Each turn goes on by 1 or 32, so that a `for` over the places would be no plainer.
+fn close(s: &[u8], i: usize) -> Option<usize>
+    ensures { result ≡ found i (find "-->" (drop i s.now)) }
 {
     if s.len() < i {
-        return Found::Nowhere;
+        return None;
     }
     let mut j = i;
     while 34 <= s.len() - j {
-        if is_free_block(s, j, a, b, c) {
+        if is_free_block(s, j) {
             j += 32;
             continue;
         }
-        if is_here(s, j, a, b, c) {
-            return Found::Here(j);
+        if is_close(s, j) {
+            return Some(j);
         }
         j += 1;
     }
-    find3_near(s, j, a, b, c)
+    close_near(s, j)
 }
 
 // Where a comment ends: after the first `-->` of s at or after i, or at the end of s.
 pub fn comment_end(s: &[u8], i: usize) -> usize
     ensures { result ≡ comment_end s.now i }
 {
-    let Found::Here(at) = find3(s, i, b'-', b'-', b'>') else {
+    let Some(at) = close(s, i) else {
         return s.len();
     };
     at + 3
@@ -152,18 +115,8 @@ pub fn comment_end(s: &[u8], i: usize) -> usize
 pub fn starts_with(s: &[u8], i: usize, p: &[u8]) -> bool
     ensures { result ≡ starts_with p.now (drop i s.now) }
 {
-    if s.len() < i {
-        return p.len() == 0;
+    match s.get(i..) {
+        Some(rest) => rest.starts_with(p),
+        None => p.is_empty(),
     }
-    if s.len() - i < p.len() {
-        return false;
-    }
-    let mut j = 0;
-    while j < p.len() {
-        if s[i + j] != p[j] {
-            return false;
-        }
-        j += 1;
-    }
-    true
 }

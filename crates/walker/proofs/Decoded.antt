@@ -5,7 +5,7 @@ use native.Mathlib.Omega.{arith}
 use mathlib.Core.Path.{◌≡◌, refl, sym, ap, ◌∙◌}
 use mathlib.Core.Bool.{Bool, true, false, cond}
 use mathlib.Core.List.{List, [], ◌++◌}
-use mathlib.Core.Option.{Option, none, some}
+use mathlib.Core.Option.{Option}
 use lib.ListN.{length, get_or, drop, length-append, length-drop, drop_of_length-le}
 use lib.Seq.{drop-drop, drop-append_seam, take-append_seam}
 use lib.Dec.{leb, eqb}
@@ -21,9 +21,11 @@ use Rattle.records.proofs.RoundTrip.{decoded_are_records}
 use Rattle.records.proofs.DecodeSteps.{bytes_are, nothing_there, block_size, with_block, decode_step, decode_bad}
 use Rattle.records.proofs.FormatLaws.{blocks_append, wf_split}
 use Rattle.walker.specs.Answers.{Answer, at_end, refused, gives, map, BlockValues, values_of, level_of, depth_of, placed, found_at, block_answer}
-use Rattle.walker.specs.Numbers.{block_values}
-use Rattle.walker.specs.declared.BlockAnswer.{BlockAnswer}
-use Rattle.walker.specs.declared.BlockAnswer.TheVariants as B
+use Rattle.walker.specs.Numbers.{level_in, depth_in, block_values}
+use Rattle.std.specs.Prelude.{Some, None, Ok, Err}
+use Rattle.std.specs.Prelude as code
+use Rattle.walker.specs.declared.blocks.Broken.{Broken}
+use Rattle.walker.specs.declared.blocks.Block as B
 use Rattle.walker.specs.Decoded.{blocks_from, is_whole}
 
 -- ---- the blocks from an offset on, by what the walker finds there
@@ -157,27 +159,16 @@ module _ (s : List ℕ) (at : ℕ) where
       by (refused k) e g = (left_at_bad e).1
       by (gives f) e g = let z : ◌≡◌ {A = ℕ} 0 1 = cc in absurd (omega arith)
 
-  -- what is known by the case of `block_at`'s answer
-  abbrev pub StandsAs : BlockAnswer → Type 0
-  StandsAs (B.Heading l n next) = Stands (some l) none n next
-  StandsAs (B.Paragraph n next) = Stands none none n next
-  StandsAs (B.Item d n next) = Stands none (some d) n next
-  StandsAs B.End = blocks_from s at ≡ parsed [] []
-  StandsAs B.Bad = blocks_from s at ≡ failed
+  -- what is known by the case of `block_at`'s answer. All that is known of the records is their type, that of a lent slice of bytes
+  pub stands_here : ((i : ℕ) → Fits w8 (get_or s i 0)) → {o : code.Option B.Block} {b : B.Block} → o ≡ Some b → block_values (Ok o) ≡ block_answer s at
+      → Stands (level_in b.kind) (depth_in b.kind) b.count b.next
+  stands_here w e g = answer_stands (bytes_are s w) (sym (ap (λ (o : code.Option B.Block). block_values (Ok o)) e) ∙ g)
 
-  stands_as : (r : BlockAnswer) → block_values r ≡ block_answer s at → Bytes s → StandsAs r
-  stands_as (B.Heading l n next) g w = answer_stands w g
-  stands_as (B.Paragraph n next) g w = answer_stands w g
-  stands_as (B.Item d n next) g w = answer_stands w g
-  stands_as B.End g w = answer_end g
-  stands_as B.Bad g w = answer_bad g
+  pub ends_here : {o : code.Option B.Block} → o ≡ None → block_values (Ok o) ≡ block_answer s at → blocks_from s at ≡ parsed [] []
+  ends_here e g = answer_end (sym (ap (λ (o : code.Option B.Block). block_values (Ok o)) e) ∙ g)
 
-  pub block_stands : {q r : BlockAnswer} → q ≡ r → block_values q ≡ block_answer s at → Bytes s → StandsAs r
-  block_stands {r = r} e g w = stands_as r (ap block_values (sym e) ∙ g) w
-
-  -- and where all that is known of the records is their type, that of a lent slice of bytes
-  pub stands_here : ((i : ℕ) → Fits w8 (get_or s i 0)) → {q r : BlockAnswer} → q ≡ r → block_values q ≡ block_answer s at → StandsAs r
-  stands_here w e g = block_stands e g (bytes_are s w)
+  pub broken_here : {b : Broken} → block_values (Err b) ≡ block_answer s at → blocks_from s at ≡ failed
+  broken_here g = answer_bad g
 
 -- ---- the part of the records that some of their blocks are
 pub record HoldsBlocks (s : List ℕ) (start end : ℕ) (x : List Block) : Type 0 where

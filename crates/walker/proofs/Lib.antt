@@ -1,10 +1,8 @@
-pub mod Front
+pub mod Integers
 pub mod MarkerBytes
 pub mod Placed
 pub mod Spans
-pub mod Heads
-pub mod Blocks
-pub mod RangeLaws
+pub mod BlockLaws
 pub mod WalkerLaws
 pub mod PlaceLaws
 pub mod NumberLaws

@@ -1,23 +1,21 @@
 -- Markers: tested by their bytes, defined by their characters.
 -- Assumes nothing.
-use Prim.Native.Nat.{ℕ, ◌+◌, ◌-◌, ◌<◌, ◌≤◌}
-use native.Mathlib.Omega.{arith}
+use Prim.Native.Nat.{ℕ, ◌+◌}
 use mathlib.Core.Path.{◌≡◌, refl, sym, ap, ◌∙◌}
-use mathlib.Core.Bool.{true, false, false≢true}
-use mathlib.Core.List.{List, [], ◌∷◌}
-use lib.ListN.{length, drop, get_or, drop_of_length-le}
-use lib.Dec.{eqb}
-use borrow.Author.Tests.{le-leb, lt-leb}
-use Rattle.text.specs.Words.{same, str, starts_with}
+use mathlib.Core.Bool.{Bool, true, false, ◌&&◌, ◌||◌}
+use mathlib.Core.List.{List, [], ◌∷◌, ◌++◌}
+use lib.ListN.{length, length-append}
+use lib.Dec.{leb, eqb}
+use Rattle.std.specs.List.{list_all}
+use Rattle.std.specs.Cmp.Lexicographic.{pointwise}
+use Rattle.text.specs.Words.{same, str}
 use Rattle.text.specs.Chars.{is_digit}
 use Rattle.text.specs.Utf8.{Scalars, utf8, chars, encode}
 use Rattle.text.proofs.Tests.{test_iff, same_true, same_self}
 use Rattle.text.proofs.Laws.{encode_chars, chars_encode}
 use Rattle.text.proofs.AsciiLaws.{encode_ascii, chars_same}
-use Rattle.text.proofs.Lists.{drop_next}
 use Rattle.records.specs.Format.{is_bullet, digits_stop, is_ordinal, is_marker}
 use Rattle.records.proofs.Markers.{bullet_scalar, ordinal_ascii}
-use Rattle.walker.proofs.Front.{front2}
 
 -- characters are compared by their bytes
 same_encode : (bs cs : List ℕ) → Scalars cs → same (chars bs) cs ≡ same bs (encode cs)
@@ -30,18 +28,14 @@ bullet_bytes : (m : List ℕ) → is_bullet (chars m) ≡ same m (226 ∷ 128 �
 unfolding utf8
 bullet_bytes m = same_encode m (str "•") bullet_scalar
 
-pub bullet_start : (m : List ℕ) → length m ≡ 3 → is_bullet (chars m) ≡ starts_with (226 ∷ 128 ∷ 162 ∷ []) m
-bullet_start m h = bullet_bytes m ∙ go m h
-  where
-    go : (m : List ℕ) → length m ≡ 3 → same m (226 ∷ 128 ∷ 162 ∷ []) ≡ starts_with (226 ∷ 128 ∷ 162 ∷ []) m
-    go [] h = absurd (omega arith)
-    go (a ∷ []) h = absurd (omega arith)
-    go (a ∷ b ∷ []) h = absurd (omega arith)
-    go (a ∷ b ∷ c ∷ []) h = refl
-    go (a ∷ b ∷ c ∷ d ∷ s) h = absurd (omega arith)
+same_pointwise : (xs ys : List ℕ) → pointwise eqb xs ys ≡ same xs ys
+same_pointwise [] [] = refl
+same_pointwise [] (y ∷ ys) = refl
+same_pointwise (x ∷ xs) [] = refl
+same_pointwise (x ∷ xs) (y ∷ ys) = ap (λ (b : Bool). eqb x y && b) (same_pointwise xs ys)
 
-pub bullet_not : (m : List ℕ) → (length m ≡ 3 → ⊥) → is_bullet (chars m) ≡ false
-bullet_not m h = bullet_bytes m ∙ test_iff (same m (226 ∷ 128 ∷ 162 ∷ [])) false (λ e. absurd (h (ap length (same_true m (226 ∷ 128 ∷ 162 ∷ []) e)))) (λ e. absurd (false≢true e))
+pub bullet_is : (m : List ℕ) → pointwise eqb m (226 ∷ 128 ∷ 162 ∷ []) ≡ is_bullet (chars m)
+bullet_is m = same_pointwise m (226 ∷ 128 ∷ 162 ∷ []) ∙ sym (bullet_bytes m)
 
 ordinal_chars : (m : List ℕ) → is_ordinal (chars m) ≡ is_ordinal m
 ordinal_chars m =
@@ -50,35 +44,21 @@ ordinal_chars m =
     (λ e. ap is_ordinal (chars_same m (ordinal_ascii m e)) ∙ e)
 
 -- the test of the bytes
-pub marker_bullet : (m : List ℕ) → is_bullet (chars m) ≡ true → is_marker (chars m) ≡ true
+pub marker_is : (m : List ℕ) → is_marker (chars m) ≡ (is_bullet (chars m) || is_ordinal m)
 unfolding is_marker
-marker_bullet m e = rw e
+marker_is m = rw (ordinal_chars m)
 
-module _ (m : List ℕ) (b : is_bullet (chars m) ≡ false) where
-  marker_ordinal : is_marker (chars m) ≡ is_ordinal m
-  unfolding is_marker
-  marker_ordinal = rw (b, ordinal_chars m)
+and_assoc : (a b c : Bool) → (a && (b && c)) ≡ ((a && b) && c)
+and_assoc true b c = refl
+and_assoc false b c = refl
 
-  pub marker_few : length m < 2 → is_marker (chars m) ≡ false
-  marker_few h = marker_ordinal ∙ rw (lt-leb 2 (length m) h)
+stop_is : (digits : List ℕ) (last : ℕ) → digits_stop (digits ++ (last ∷ [])) ≡ (list_all is_digit digits && eqb last 46)
+stop_is [] last = refl
+stop_is (c ∷ []) last = ap (λ (b : Bool). is_digit c && b) (stop_is [] last) ∙ and_assoc (is_digit c) true (eqb last 46)
+stop_is (c ∷ d ∷ s) last =
+    ap (λ (b : Bool). is_digit c && b) (stop_is (d ∷ s) last)
+    ∙ and_assoc (is_digit c) (list_all is_digit (d ∷ s)) (eqb last 46)
 
-  module _ (l : 2 ≤ length m) where
-    pub marker_many : 10 < length m → is_marker (chars m) ≡ false
-    marker_many h = marker_ordinal ∙ rw (le-leb 2 (length m) l, lt-leb (length m) 10 h)
-
-    pub marker_digits : length m ≤ 10 → is_marker (chars m) ≡ digits_stop m
-    marker_digits h = marker_ordinal ∙ rw (le-leb 2 (length m) l, le-leb (length m) 10 h)
-
-module _ (m : List ℕ) (i : ℕ) (h : i + 2 ≤ length m) where
-  pub stop_step : is_digit (get_or m i 0) ≡ true → digits_stop (drop (i + 1) m) ≡ digits_stop (drop i m)
-  stop_step d = rw (drop_next m i (omega arith), drop_next m (i + 1) (omega arith), d)
-
-  pub stop_bad : is_digit (get_or m i 0) ≡ false → digits_stop (drop i m) ≡ false
-  stop_bad d = rw (front2 m i h, d)
-
-pub stop_last : (m : List ℕ) → 1 ≤ length m → digits_stop (drop (length m - 1) m) ≡ eqb (get_or m (length m - 1) 0) 46
-stop_last m h = rw (drop_next m (length m - 1) (omega arith), drop_of_length-le m {i = length m - 1 + 1} (omega arith))
-
-pub stop_none : (m : List ℕ) → length m ≡ 0 → digits_stop m ≡ false
-stop_none [] e = refl
-stop_none (a ∷ m) e = absurd (omega arith)
+pub ordinal_is : (digits : List ℕ) (last : ℕ) → is_ordinal (digits ++ (last ∷ []))
+    ≡ (leb 2 (length digits + 1) && leb (length digits + 1) 10 && (list_all is_digit digits && eqb last 46))
+ordinal_is digits last = rw (length-append digits (last ∷ []), stop_is digits last)

@@ -15,15 +15,15 @@ use Rattle.records.specs.Decode.{Parse, failed, parsed, span_at, spans_at, kind_
 use Rattle.walker.specs.Answers.{Answer, at_end, refused, gives, map, placed, found_at, marker_of, text_or_none, marker_answer, nth, nth_of, span_in, text_answer}
 use Rattle.walker.specs.Places.{nowhere, range_or_none, marker_from, marker_range, marker_place, span_from, text_range, nth_range, text_place, HereValues, here_values_of, here_answer}
 use Rattle.text.specs.Part.{between, Inside}
-use Rattle.walker.specs.declared.Range.{Range}
+use Rattle.text.specs.declared.parts.Part.{Part}
 use Rattle.records.proofs.Decoded.{not_failed, only_inv, then_inv}
 use Rattle.records.proofs.DecodeSteps.{nothing_there}
 use Rattle.walker.proofs.Placed.{After, Ends, after_length, then_after, then_ends, kind_bytes, kind_ends, count_after, span_ends}
-use Rattle.walker.proofs.Blocks.{spans_count}
+use Rattle.walker.proofs.BlockLaws.{spans_count}
 use Rattle.walker.proofs.WalkerLaws.{split, nth_over}
 
 -- a place inside the records, with the bytes of a text
-pub record Holds (s : List ℕ) (r : Range) (cs : List ℕ) : Type 0 where
+pub record Holds (s : List ℕ) (r : Part) (cs : List ℕ) : Type 0 where
   pub within : Inside s r.start r.end
   pub bytes : between s r.start r.end ≡ encode cs
 
@@ -128,9 +128,15 @@ module _ (s : List ℕ) (at : ℕ) where
       kind_holds f.0.kind (then_ends b.inside b.is.fields)
 
   -- a marker's place
-  pub marker_holds : {r : Range} → r ≡ marker_place s at → Holds s r (marker_answer s at)
+  pub marker_holds : {r : Part} → r ≡ marker_place s at → Holds s r (marker_answer s at)
   unfolding marker_place marker_answer
   marker_holds e = rw e (marker_of_found (found_at s at) refl)
+
+  pub marker_inside : {r : Part} → r ≡ marker_place s at → Inside s r.start r.end
+  marker_inside e = (marker_holds e).within
+
+  pub marker_bytes : between s (marker_place s at).start (marker_place s at).end ≡ encode (marker_answer s at)
+  marker_bytes = (marker_holds refl).bytes
 
   module _ (n : ℕ) where
     module _ (f : Block × ℕ) (b : At s at f) where
@@ -152,9 +158,15 @@ module _ (s : List ℕ) (at : ℕ) where
     text_of_found (gives f) h = let b = found_inv s at h in nth_holds f b (ltb n b.is.count) refl
 
     -- a text's place
-    pub text_holds : {r : Range} → r ≡ text_place s at n → Holds s r (text_answer s at n)
+    pub text_holds : {r : Part} → r ≡ text_place s at n → Holds s r (text_answer s at n)
     unfolding text_place text_answer span_in
     text_holds e = rw e (text_of_found (found_at s at) refl)
+
+    pub text_inside : {r : Part} → r ≡ text_place s at n → Inside s r.start r.end
+    text_inside e = (text_holds e).within
+
+    pub text_bytes : between s (text_place s at n).start (text_place s at n).end ≡ encode (text_answer s at n)
+    text_bytes = (text_holds refl).bytes
 
 -- the bytes of the spans from n on, where span n is x
 from_nth : (xs : List Span) (n : ℕ) {x : Span} → nth xs n ≡ gives x

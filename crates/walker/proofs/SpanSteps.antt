@@ -2,16 +2,17 @@
 -- Assumes nothing.
 use Prim.Native.Nat.{ℕ, zero, suc, ◌<◌}
 use native.Mathlib.Omega.{arith}
-use mathlib.Core.Path.{◌≡◌, refl, sym, ap, ◌∙◌}
-use mathlib.Core.Bool.{Bool}
+use mathlib.Core.Path.{◌≡◌, refl, ap, ◌∙◌}
 use mathlib.Core.List.{List, [], ◌∷◌}
 use lib.ListN.{length, drop}
 use Rattle.records.specs.Blocks.{Span, Block}
 use Rattle.walker.specs.Answers.{gives, emphasis_of, nth, found_at, span_in, text_answer}
 use Rattle.walker.specs.Places.{span_from, text_place, HereValues, here_values_of, here_answer}
-use Rattle.walker.specs.Numbers.{here_values}
-use Rattle.walker.specs.declared.HereAnswer.{HereAnswer}
-use Rattle.walker.specs.declared.HereAnswer.TheVariants as H
+use Rattle.walker.specs.Numbers.{emphasis_in, here_values}
+use Rattle.std.specs.Prelude.{Ok, Err}
+use Rattle.std.specs.Prelude as code
+use Rattle.walker.specs.declared.blocks.Broken.{Broken}
+use Rattle.walker.specs.declared.blocks.Span as S
 use Rattle.walker.proofs.PlaceLaws.{Holds, text_holds, listed}
 
 record Nth (xs : List Span) (n : ℕ) : Type 0 where
@@ -52,18 +53,18 @@ module _ (s : List ℕ) (at : ℕ) {f : Block × ℕ} (e : found_at s at ≡ giv
 
   -- by the case of `here_at`'s answer, where the span's offset was come to
   module _ {here : ℕ} (h : here ≡ span_from f.0.spans f.1 n) where
-    answers : (r : HereAnswer) → here_values r ≡ here_answer s here → here_values r ≡ gives values
+    answers : (r : code.Result S.Span Broken) → here_values r ≡ here_answer s here → here_values r ≡ gives values
     answers r g = g ∙ ap (here_answer s) h ∙ listed s at e n this.is
 
-    pub never_bad : {r : HereAnswer} → r ≡ H.Bad → here_values r ≡ here_answer s here → ⊥
-    never_bad {r} b g =
-        let p = sym (ap here_values b) ∙ answers r g in
+    pub never_bad : {b : Broken} → here_values (Err b) ≡ here_answer s here → ⊥
+    never_bad {b} g =
+        let p = answers (Err b) g in
         let z : ◌≡◌ {A = ℕ} 0 1 = cc in
         absurd (omega arith)
 
-    pub span_shown : {r : HereAnswer} {b i c : Bool} {start end next : ℕ} → r ≡ H.Span b i c start end next → here_values r ≡ here_answer s here
-        → SpanHere s f n (record { emphasis = record { bold = b; italic = i; code = c }; text = record { start = start; end = end }; next = next })
-    span_shown {r} {b} {i} {c} {start} {end} {next} k g =
-        let p = sym (ap here_values k) ∙ answers r g in
-        let q : record { emphasis = record { bold = b; italic = i; code = c }; text = record { start = start; end = end }; next = next } ≡ values = cc in
+    pub span_shown : {x : S.Span} → here_values (Ok x) ≡ here_answer s here
+        → SpanHere s f n (record { emphasis = emphasis_in x.emphasis; text = x.text; next = x.next })
+    span_shown {x} g =
+        let p = answers (Ok x) g in
+        let q : record { emphasis = emphasis_in x.emphasis; text = x.text; next = x.next } ≡ values = cc in
         rw q span_here

@@ -1,37 +1,39 @@
--- What the walker's answers follow from. Each law answers one return of the code.
+-- What the walker's answers follow from.
 -- Assumes nothing.
 use Prim.Native.Nat.{ℕ, zero, suc, ◌+◌, ◌-◌, ◌<◌, ◌≤◌, zero-le}
 use native.Mathlib.Omega.{arith}
 use mathlib.Core.Path.{◌≡◌, refl, sym, ap, subst, ◌∙◌}
-use mathlib.Core.Bool.{Bool}
 use mathlib.Core.List.{List, [], ◌∷◌}
 use lib.ListN.{length, drop, length-drop, drop_of_length-le}
-use lib.Dec.{eqb}
 use borrow.Author.Tests.{eq-eqb, ne_eqb}
+use Rattle.std.specs.Prelude.{Some, None, Ok, Err, IsErr}
+use Rattle.std.specs.Prelude as code
+use Rattle.std.specs.Borrow.{Bor}
 use Rattle.text.specs.Utf8.{size, chars}
-use Rattle.text.proofs.Tests.{on}
-use Rattle.records.specs.Blocks.{Span, Block}
+use Rattle.text.specs.Part.{between, Inside}
+use Rattle.text.specs.declared.parts.Part.{Part}
+use Rattle.records.specs.Blocks.{Span}
 use Rattle.records.specs.Format.{encode_span, encode_spans}
 use Rattle.records.specs.Decode.{failed, parsed, span_at, spans_at, block_at}
 use Rattle.walker.specs.Answers.{Answer, at_end, refused, gives, map, level_of, depth_of, emphasis_of, found_at, block_answer, nth, span_in, span_answer}
 use Rattle.walker.specs.Places.{nowhere, range_or_none, marker_from, marker_range, marker_place, span_from, text_range, text_place, first_answer, here_answer}
-use Rattle.text.specs.Part.{between, Inside}
-use Rattle.walker.specs.Readers.{SpanIs, span_parse, span_placed, rest, EndIs, end_parse, kind_of, kind_placed, Found, NthIs, nth_asked, nth_at}
-use Rattle.walker.specs.declared.reader.Kind as K
-use Rattle.walker.specs.declared.reader.Kind.TheVariants as KV
-use Rattle.walker.specs.declared.reader.SpansEnd.{SpansEnd}
-use Rattle.walker.specs.declared.reader.SpansEnd.TheVariants as E
-use Rattle.walker.specs.declared.reader.SpanRead.{SpanRead}
-use Rattle.walker.specs.declared.reader.SpanRead.TheVariants as S
-use Rattle.walker.specs.declared.Range.{Range}
-use Rattle.walker.specs.declared.Nth.{Nth}
-use Rattle.walker.specs.declared.Nth.TheVariants as N
+use Rattle.walker.specs.Numbers.{answered, level_in, depth_in, values_in, emphasis_in, here_values}
+use Rattle.walker.specs.declared.cursor.Cursor.{Cursor}
+use Rattle.walker.specs.Readers.{left, SpanIs, span_of, text_in, rest, EndIs, kind_of, marker_placed, Found, BlockIs, NthIs}
+use Rattle.walker.specs.declared.blocks.Broken.{Broken}
+use Rattle.walker.specs.declared.blocks.Kind as K
+use Rattle.walker.specs.declared.blocks.Kind.TheVariants as KV
+use Rattle.walker.specs.declared.blocks.Span as S
+use Rattle.walker.specs.declared.reader.Whole.{Whole}
 use Rattle.walker.proofs.Spans.{rest_next, between_size}
 use Rattle.walker.proofs.Placed.{After, after_length, then_after, span_ends, spans_after}
 use Rattle.records.proofs.Decoded.{not_failed, then_inv}
 use Rattle.records.proofs.DecodeSteps.{nothing_there}
-use Rattle.walker.proofs.Blocks.{spans_count}
-use Rattle.walker.proofs.RangeLaws.{two_ends}
+use Rattle.walker.proofs.BlockLaws.{same_left, spans_count}
+
+-- a place in the records is known by its two ends
+pub two_ends : {a b c d : ℕ} → a ≡ b → c ≡ d → ◌≡◌ {A = Part} (record { start = a; end = c }) (record { start = b; end = d })
+two_ends p q = rw (p, q)
 
 text_range_is : (s : List ℕ) {start end e : ℕ} → Inside s start end → e ≡ end
     → text_range e (chars (between s start end)) ≡ record { start = start; end = end }
@@ -54,87 +56,93 @@ module _ (s : List ℕ) (at : ℕ) where
   unfolding found_at
   found_none h e = rw (ne_eqb at (length s) h, e)
 
-  module _ {k : K.Kind} {n first next : ℕ} (f : Found s at k n first next) where
+  module _ {w : Whole} (f : Found s at w) where
     -- no block stands at the end
     before_end : at ≡ length s → ⊥
     before_end h =
         let l : length s ≤ at = omega arith in
         not_failed (sym (ap block_at (drop_of_length-le s l) ∙ nothing_there) ∙ f.block)
 
-    pub found_is : found_at s at ≡ gives ((record { kind = kind_of s k; spans = f.xs }), next)
+    pub found_is : found_at s at ≡ gives ((record { kind = kind_of s w.block.kind w.marker; spans = f.xs }), w.block.next)
     unfolding found_at
     found_is =
-        let b : next ≤ length s = f.within in
-        let l : length s - (length s - next) ≡ next = omega arith in
-        rw (ne_eqb at (length s) before_end, f.block, length-drop next s, l)
+        let b : w.block.next ≤ length s = f.within in
+        let l : length s - (length s - w.block.next) ≡ w.block.next = omega arith in
+        rw (ne_eqb at (length s) before_end, f.block, length-drop w.block.next s, l)
 
-    block_is : gives (record { level = level_of (kind_of s k); depth = depth_of (kind_of s k); count = n; next = next }) ≡ block_answer s at
-    unfolding block_answer
-    block_is = rw (found_is, spans_count n (drop first s) f.spans)
+  level_same : (k : K.Kind) (m : Part) → level_of (kind_of s k m) ≡ level_in k
+  level_same (KV.Heading l) m = refl
+  level_same KV.Paragraph m = refl
+  level_same (KV.Item d) m = refl
 
-    -- with the kind's case known
-    module _ {k' : K.Kind} (e : k ≡ k') where
-      pub block_case : gives (record { level = level_of (kind_of s k'); depth = depth_of (kind_of s k'); count = n; next = next }) ≡ block_answer s at
-      block_case =
-          ap (λ (k : K.Kind). gives (record { level = level_of (kind_of s k); depth = depth_of (kind_of s k); count = n; next = next })) (sym e)
-          ∙ block_is
+  depth_same : (k : K.Kind) (m : Part) → depth_of (kind_of s k m) ≡ depth_in k
+  depth_same (KV.Heading l) m = refl
+  depth_same KV.Paragraph m = refl
+  depth_same (KV.Item d) m = refl
 
-      range_case : marker_range at (kind_of s k') ≡ marker_place s at
-      unfolding marker_place
-      range_case = rw found_is (ap (λ (k : K.Kind). marker_range at (kind_of s k)) (sym e))
+  -- a marker is where the reader found it
+  marker_same : (k : K.Kind) (m : Part) → marker_placed s at k m → m ≡ marker_range at (kind_of s k m)
+  marker_same (KV.Heading l) m p = p
+  marker_same KV.Paragraph m p = p
+  marker_same (KV.Item d) m (w, p) =
+      let n : size (text_in s m) ≡ m.end - m.start = between_size s m.start m.end w in
+      let l : m.start ≤ m.end = w.order in
+      let q : m.end ≡ at + marker_from d + size (text_in s m) = omega arith in
+      two_ends p q
 
-    -- an item's marker is where the reader found it
-    pub marker_is : {d start end : ℕ} → k ≡ KV.Item d start end → record { start = start; end = end } ≡ marker_place s at
-    marker_is {d} {start} {end} e =
-        let (w, p) = subst (kind_placed s at) e f.placed in
-        let n : size (chars (between s start end)) ≡ end - start = between_size s start end w in
-        let l : start ≤ end = w.order in
-        let q : end ≡ at + marker_from d + size (chars (between s start end)) = omega arith in
-        two_ends p q ∙ range_case e
+  -- what the calls say of the reader's answer
+  pub block_is : (r : code.Result (code.Option Whole) Broken) → BlockIs s at r → answered (λ w. values_in w.block) r ≡ block_answer s at
+  unfolding block_answer
+  block_is (Ok (Some w)) f = rw (found_is f, level_same w.block.kind w.marker, depth_same w.block.kind w.marker, spans_count w.block.count (drop w.first s) f.spans)
+  block_is (Ok None) h = rw (found_end h)
+  block_is (Err e) (h, f) = rw (found_none h f)
 
-    -- its first span stands where the reader found it
-    pub first_is : gives first ≡ first_answer s at
-    unfolding first_answer
-    first_is =
-        let e : next - length (encode_spans f.xs) ≡ first = ends_before s f.starts f.within (spans_after n (drop first s) f.spans) in
-        rw (found_is, e)
-
-  pub first_end : at ≡ length s → at_end ≡ first_answer s at
+  pub first_is : (r : code.Result (code.Option Whole) Broken) → BlockIs s at r → answered (λ w. w.first) r ≡ first_answer s at
   unfolding first_answer
-  first_end h = rw (found_end h)
+  first_is (Ok (Some w)) f =
+      let e : w.block.next - length (encode_spans f.xs) ≡ w.first = ends_before s f.starts f.within (spans_after w.block.count (drop w.first s) f.spans) in
+      rw (found_is f, e)
+  first_is (Ok None) h = rw (found_end h)
+  first_is (Err e) (h, f) = rw (found_none h f)
 
-  pub first_bad : (at ≡ length s → ⊥) → block_at (drop at s) ≡ failed → refused 7 ≡ first_answer s at
-  unfolding first_answer
-  first_bad h e = rw (found_none h e)
+  abbrev pub marker_in : code.Result (code.Option Whole) Broken → Part
+  marker_in (Ok (Some w)) = w.marker
+  marker_in (Ok None) = nowhere
+  marker_in (Err e) = nowhere
 
+  pub marker_is : (r : code.Result (code.Option Whole) Broken) → BlockIs s at r → marker_in r ≡ marker_place s at
+  unfolding marker_place
+  marker_is (Ok (Some w)) f = rw (found_is f) (marker_same w.block.kind w.marker f.placed)
+  marker_is (Ok None) h = rw (found_end h)
+  marker_is (Err e) (h, f) = rw (found_none h f)
+
+-- a span that a cursor over s read: what stands there, and where
+pub record Stood (s t : List ℕ) (x : S.Span) : Type 0 where
+  pub read : span_at t ≡ parsed (span_of s x) (drop x.next s)
+  pub within : Inside s x.text.start x.text.end
+  pub next : x.next ≡ x.text.end
+
+pub stood : {s : Bor (List ℕ)} (c : Cursor) {d : Cursor} {x : S.Span} → c.bytes ≡ s → SpanIs (span_at (left c)) c d (Ok x) → Stood s.now (drop c.at s.now) x
+stood {s} c {d} {x} h (e, (m, l), (o, f, g)) =
+    let at_d : d.bytes ≡ s = m ∙ h in
+    let k : d.at ≤ length s.now = rw at_d at l in
+    let i : span_at (drop c.at s.now) ≡ parsed (span_of s.now x) (drop d.at s.now) = rw (h, at_d) at e in
+    record {
+      read = rw g i;
+      within = record { order = o; bound = omega arith };
+      next = g ∙ sym f;
+    }
+
+module _ (s : Bor (List ℕ)) (at : ℕ) where
   -- a span by its own offset
-  module _ {r : SpanRead} (w : SpanIs (span_at (drop at s)) s r) where
-    pub here_bad : r ≡ S.Bad → refused 7 ≡ here_answer s at
-    unfolding here_answer
-    here_bad e = rw (w.read, e)
-
-    pub here_is : {b i c : Bool} {start end : ℕ} → r ≡ S.At b i c start end
-        → gives (record { emphasis = record { bold = b; italic = i; code = c }; text = record { start = start; end = end }; next = end }) ≡ here_answer s at
-    unfolding here_answer
-    here_is {start = start} {end = end} e =
-        let p : Inside s start end = subst (span_placed s) e w.placed in
-        let l : end ≤ length s = p.bound in
-        let n : length s - length (drop end s) ≡ end = omega (arith, length-drop end s) in
-        rw (w.read, e, text_range_is s p n, n)
-
-  pub block_end : at ≡ length s → at_end ≡ block_answer s at
-  unfolding block_answer
-  block_end h = rw (found_end h)
-
-  pub block_bad : (at ≡ length s → ⊥) → block_at (drop at s) ≡ failed → refused 7 ≡ block_answer s at
-  unfolding block_answer
-  block_bad h e = rw (found_none h e)
-
-  -- where no block stands there is no marker and no text
-  module _ (e : block_at (drop at s) ≡ failed) where
-    pub marker_bad : nowhere ≡ marker_place s at
-    unfolding marker_place found_at
-    marker_bad = rw e (on (λ (a : Answer (Block × ℕ)). nowhere ≡ range_or_none (λ f. marker_range at f.0.kind) a) (eqb at (length s)) (λ _. refl) (λ _. refl))
+  pub here_is : (r : code.Result S.Span Broken) (d : Cursor) → SpanIs (span_at (drop at s.now)) (record { bytes = s; at = at }) d r → here_values r ≡ here_answer s.now at
+  unfolding here_answer
+  here_is (Ok x) d h =
+      let v = stood (record { bytes = s; at = at }) refl h in
+      let l : x.text.end ≤ length s.now = v.within.bound in
+      let n : length s.now - length (drop x.next s.now) ≡ x.next = omega (arith, length-drop x.next s.now, v.next) in
+      rw (v.read, n, text_range_is s.now v.within v.next)
+  here_is (Err e) d h = rw h
 
 -- Span n, where n spans were passed over
 pub record Split (xs : List Span) (n : ℕ) (t q : List ℕ) : Type 0 where
@@ -187,79 +195,78 @@ nth_over (x ∷ xs) zero l = absurd (omega arith)
 nth_over (x ∷ xs) (suc n) l = nth_over xs n (omega arith)
 
 module _ (s : List ℕ) (at n : ℕ) where
-  pub nth_end : at ≡ length s → NthIs s at n N.End
+  pub nth_end : at ≡ length s → NthIs s at n (Ok None)
   unfolding span_in text_place
-  nth_end h = record { read = rw (found_end s at h); placed = rw (found_end s at h) }
+  nth_end h = (rw (found_end s at h), rw (found_end s at h))
 
-  pub nth_none : (at ≡ length s → ⊥) → block_at (drop at s) ≡ failed → NthIs s at n N.Bad
+  pub nth_none : {e : Broken} → (at ≡ length s → ⊥) × (block_at (drop at s) ≡ failed) → NthIs s at n (Err e)
   unfolding span_in text_place
-  nth_none h e = record { read = rw (found_none s at h e); placed = rw (found_none s at h e) }
+  nth_none (h, e) = (rw (found_none s at h e), rw (found_none s at h e))
 
-  module _ {k : K.Kind} {m first next : ℕ} (f : Found s at k m first next) where
-    abbrev at_nth : Answer Span → Range
-    at_nth = range_or_none (λ x. text_range (span_from f.xs next (suc n)) x.text)
+  module _ {w : Whole} (f : Found s at w) where
+    abbrev at_nth : Answer Span → Part
+    at_nth = range_or_none (λ x. text_range (span_from f.xs w.block.next (suc n)) x.text)
 
     nth_in : {a : Answer Span} → nth f.xs n ≡ a → (span_in s at n ≡ a) × (text_place s at n ≡ at_nth a)
     unfolding span_in text_place
     nth_in e = (rw (found_is s at f) e, rw (found_is s at f) (ap at_nth e))
 
-    pub nth_past : m ≤ n → NthIs s at n N.End
+    pub nth_past : w.block.count ≤ n → NthIs s at n (Ok None)
     nth_past l =
-        let (p, q) = nth_in (nth_over f.xs n (rw (spans_count m (drop first s) f.spans) l)) in
-        record { read = p; placed = q }
+        nth_in (nth_over f.xs n (rw (spans_count w.block.count (drop w.first s) f.spans) l))
 
-    module _ (l : n < m) {r : SpansEnd} (x : EndIs (spans_at n (drop first s)) s r) where
-      here : Split f.xs n (drop first s) (drop next s)
-      here = split m (drop first s) f.spans n l
+    module _ (l : n < w.block.count) where
+      here : Split f.xs n (drop w.first s) (drop w.block.next s)
+      here = split w.block.count (drop w.first s) f.spans n l
 
-      pub nth_cut : r ≡ E.Bad → NthIs s at n N.Bad
-      nth_cut e = not_failed (sym (ap (end_parse s) e) ∙ sym x.read ∙ here.passed)
+      -- the spans before it were read with the block
+      pub nth_cut : {e : Broken} → rest (spans_at n (drop w.first s)) ≡ failed → NthIs s at n (Err e)
+      nth_cut x = not_failed (sym x ∙ here.passed)
 
-      module _ {p : ℕ} (e : r ≡ E.At p) {z : SpanRead} (y : SpanIs (span_at (drop p s)) s z) where
+      module _ (p : ℕ) (x : rest (spans_at n (drop w.first s)) ≡ parsed tt (drop p s)) where
         there : span_at (drop p s) ≡ parsed here.x here.to
         there =
-            let a : parsed tt (drop p s) ≡ parsed tt here.from = sym (ap (end_parse s) e) ∙ sym x.read ∙ here.passed in
+            let a : parsed tt (drop p s) ≡ parsed tt here.from = sym x ∙ here.passed in
             let b : drop p s ≡ here.from = cc in
             ap span_at b ∙ here.read
 
-        pub nth_wrong : z ≡ S.Bad → NthIs s at n N.Bad
-        nth_wrong g = not_failed (sym (ap (span_parse s) g) ∙ sym y.read ∙ there)
+        pub nth_wrong : {e : Broken} → span_at (drop p s) ≡ failed → NthIs s at n (Err e)
+        nth_wrong y = not_failed (sym y ∙ there)
 
-        pub nth_is : {b i c : Bool} {start end : ℕ} → z ≡ S.At b i c start end → NthIs s at n (N.At b i c start end)
-        nth_is {b} {i} {c} {start} {end} g =
-            let a = sym there ∙ y.read ∙ ap (span_parse s) g in
-            let o : here.x ≡ record { text = chars (between s start end); bold = b; italic = i; code = c } = cc in
-            let t : here.to ≡ drop end s = cc in
-            let w : Inside s start end = subst (span_placed s) g y.placed in
+        pub nth_is : {z : S.Span} → Stood s (drop p s) z → NthIs s at n (Ok (Some z))
+        nth_is {z} y =
+            let v = y.within in
+            let g = y.next in
+            let a = sym there ∙ y.read in
+            let o : here.x ≡ span_of s z = cc in
+            let t : here.to ≡ drop z.next s = cc in
             let j = length (encode_spans (drop (suc n) f.xs)) in
-            let a : After j (drop end s) (drop next s) = subst (λ (l : List ℕ). After j l (drop next s)) t here.behind in
-            let q : next - j ≡ end = ends_before s w.bound f.within a in
-            let (u, v) = nth_in (here.is ∙ ap gives o) in
-            record { read = u; placed = v ∙ text_range_is s w q }
+            let b : After j (drop z.next s) (drop w.block.next s) = subst (λ (l : List ℕ). After j l (drop w.block.next s)) t here.behind in
+            let m : z.text.end ≤ length s = v.bound in
+            let q : w.block.next - j ≡ z.next = ends_before s (omega arith) f.within b in
+            let (u, r) = nth_in (here.is ∙ ap gives o) in
+            (u, r ∙ text_range_is s v (q ∙ g))
 
-module _ (s : List ℕ) (at n : ℕ) {r : Nth} (w : NthIs s at n r) where
-  pub span_case : {r' : Nth} → r ≡ r' → map emphasis_of (nth_asked s r') ≡ span_answer s at n
+  -- a refusal that was passed on
+  pub refused_as : (r : code.Result (code.Option S.Span) Broken) → IsErr r → ((e : Broken) → NthIs s at n (Err e)) → NthIs s at n r
+  refused_as (Ok o) h f = cc h
+  refused_as (Err e) h f = f e
+
+  -- what the calls say of its answer
+  pub span_is : (r : code.Result (code.Option S.Span) Broken) → NthIs s at n r → answered (λ x. emphasis_in x.emphasis) r ≡ span_answer s at n
   unfolding span_answer
-  span_case e = ap (λ (r : Nth). map emphasis_of (nth_asked s r)) (sym e) ∙ ap (map emphasis_of) (sym w.read)
+  span_is (Ok (Some x)) (e, _) = sym (ap (map emphasis_of) e)
+  span_is (Ok None) (e, _) = sym (ap (map emphasis_of) e)
+  span_is (Err b) (e, _) = sym (ap (map emphasis_of) e)
 
-  pub text_case : {r' : Nth} → r ≡ r' → nth_at r' ≡ text_place s at n
-  text_case e = ap nth_at (sym e) ∙ sym w.placed
+-- after n spans that a cursor passed over
+module _ {s : Bor (List ℕ)} (at n : ℕ) {w : Whole} (f : Found s.now at w) (l : n < w.block.count) {d : Cursor} {u : Unit {0}}
+    (x : EndIs (spans_at n (drop w.first s.now)) (record { bytes = s; at = w.first }) d (Ok u)) where
+  passed : rest (spans_at n (drop w.first s.now)) ≡ parsed tt (drop d.at s.now)
+  passed = x.0 ∙ ap (parsed tt) (same_left d x.1.0)
 
--- the `else` of a `let .. else` knows only what the value is not
-no_text : (r : Nth) → ((b i c : Bool) (start end : ℕ) → r ≡ N.At b i c start end → ⊥) → nowhere ≡ nth_at r
-no_text (N.At b i c start end) h = absurd (h b i c start end refl)
-no_text N.End h = refl
-no_text N.Bad h = refl
+  pub then_wrong : {e : Broken} → span_at (left d) ≡ failed → NthIs s.now at n (Err e)
+  then_wrong y = nth_wrong s.now at n f l d.at passed (ap span_at (sym (same_left d x.1.0)) ∙ y)
 
-pub text_none : (s : List ℕ) (at n : ℕ) {r : Nth} → NthIs s at n r → ((b i c : Bool) (start end : ℕ) → r ≡ N.At b i c start end → ⊥)
-    → nowhere ≡ text_place s at n
-text_none s at n {r} w h = no_text r h ∙ text_case s at n w refl
-
-no_marker : (s : List ℕ) (at : ℕ) (k : K.Kind) → ((d start end : ℕ) → k ≡ KV.Item d start end → ⊥) → nowhere ≡ marker_range at (kind_of s k)
-no_marker s at (KV.Heading l) h = refl
-no_marker s at KV.Paragraph h = refl
-no_marker s at (KV.Item d start end) h = absurd (h d start end refl)
-
-pub marker_none : (s : List ℕ) (at : ℕ) {k : K.Kind} {n first next : ℕ} → Found s at k n first next
-    → ((d start end : ℕ) → k ≡ KV.Item d start end → ⊥) → nowhere ≡ marker_place s at
-marker_none s at {k} f h = no_marker s at k h ∙ range_case s at f refl
+  pub then_is : {d' : Cursor} {z : S.Span} → SpanIs (span_at (left d)) d d' (Ok z) → NthIs s.now at n (Ok (Some z))
+  then_is y = nth_is s.now at n f l d.at passed (stood d x.1.0 y)

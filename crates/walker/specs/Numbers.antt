@@ -1,36 +1,48 @@
--- Document 01's number and values for each case of the walker's enums ("Where each call says no": 7).
+-- Document 01's number and values for each case of the walker's answers ("Where each call says no": 7).
 -- Assumes nothing.
-use Rattle.std.specs.Prelude.{ℕ}
-use Rattle.std.proofs.Math.Option.{none, some}
+use Rattle.std.specs.Prelude.{ℕ, Some, None, Ok, Err}
+use Rattle.std.specs.Prelude as code
+use Rattle.std.proofs.Math.Option.{Option, none, some}
 use Rattle.walker.specs.Answers.{Answer, at_end, refused, gives, BlockValues, Emphasis}
 use Rattle.walker.specs.Places.{HereValues}
-use Rattle.walker.specs.declared.BlockAnswer.{BlockAnswer}
-use Rattle.walker.specs.declared.BlockAnswer.TheVariants as B
-use Rattle.walker.specs.declared.SpanAnswer.{SpanAnswer}
-use Rattle.walker.specs.declared.SpanAnswer.TheVariants as S
-use Rattle.walker.specs.declared.FirstAnswer.{FirstAnswer}
-use Rattle.walker.specs.declared.FirstAnswer.TheVariants as F
-use Rattle.walker.specs.declared.HereAnswer.{HereAnswer}
-use Rattle.walker.specs.declared.HereAnswer.TheVariants as H
+use Rattle.walker.specs.declared.blocks.Broken.{Broken}
+use Rattle.walker.specs.declared.blocks.Kind as K
+use Rattle.walker.specs.declared.blocks.Kind.TheVariants as KV
+use Rattle.walker.specs.declared.blocks.Block as B
+use Rattle.walker.specs.declared.blocks.Emphasis as E
+use Rattle.walker.specs.declared.blocks.Span as S
 
-abbrev pub block_values : BlockAnswer → Answer BlockValues
-block_values (B.Heading l n next) = gives (record { level = some l; depth = none; count = n; next = next })
-block_values (B.Paragraph n next) = gives (record { level = none; depth = none; count = n; next = next })
-block_values (B.Item d n next) = gives (record { level = none; depth = some d; count = n; next = next })
-block_values B.End = at_end
-block_values B.Bad = refused 7
+-- the end, 7, or the values of what stands there
+abbrev pub answered : {A B : Type 0} → (A → B) → code.Result (code.Option A) Broken → Answer B
+answered f (Ok (Some a)) = gives (f a)
+answered f (Ok None) = at_end
+answered f (Err e) = refused 7
 
-abbrev pub first_values : FirstAnswer → Answer ℕ
-first_values (F.At at) = gives at
-first_values F.End = at_end
-first_values F.Bad = refused 7
+abbrev pub level_in : K.Kind → Option ℕ
+level_in (KV.Heading l) = some l
+level_in KV.Paragraph = none
+level_in (KV.Item d) = none
 
-abbrev pub here_values : HereAnswer → Answer HereValues
-here_values (H.Span b i c start end next) =
-    gives (record { emphasis = record { bold = b; italic = i; code = c }; text = record { start = start; end = end }; next = next })
-here_values H.Bad = refused 7
+abbrev pub depth_in : K.Kind → Option ℕ
+depth_in (KV.Heading l) = none
+depth_in KV.Paragraph = none
+depth_in (KV.Item d) = some d
 
-abbrev pub span_values : SpanAnswer → Answer Emphasis
-span_values (S.Span b i c) = gives (record { bold = b; italic = i; code = c })
-span_values S.End = at_end
-span_values S.Bad = refused 7
+abbrev pub values_in : B.Block → BlockValues
+values_in b = record { level = level_in b.kind; depth = depth_in b.kind; count = b.count; next = b.next }
+
+abbrev pub block_values : code.Result (code.Option B.Block) Broken → Answer BlockValues
+block_values r = answered values_in r
+
+abbrev pub first_values : code.Result (code.Option ℕ) Broken → Answer ℕ
+first_values r = answered (λ at. at) r
+
+abbrev pub emphasis_in : E.Emphasis → Emphasis
+emphasis_in e = record { bold = e.bold; italic = e.italic; code = e.code }
+
+abbrev pub here_values : code.Result S.Span Broken → Answer HereValues
+here_values (Ok x) = gives (record { emphasis = emphasis_in x.emphasis; text = x.text; next = x.next })
+here_values (Err e) = refused 7
+
+abbrev pub span_values : code.Result (code.Option E.Emphasis) Broken → Answer Emphasis
+span_values r = answered emphasis_in r

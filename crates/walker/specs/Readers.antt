@@ -1,144 +1,120 @@
 -- What the inner readers promise: an answer says what the decoder finds at an offset, and where the rest starts.
 -- Assumes nothing.
-use Rattle.std.specs.Prelude.{ℕ, ◌+◌, ◌/◌, ◌%◌, ◌≤◌, ◌≡◌, List, length, drop, eqb}
+use Rattle.std.specs.Prelude.{ℕ, ◌+◌, ◌*◌, ◌/◌, ◌%◌, ◌<◌, ◌≤◌, ◌≡◌, List, [], ◌∷◌, length, drop, eqb, Some, None, Ok, Err}
+use Rattle.std.specs.Prelude as code
 use Rattle.text.specs.Part.{between, Inside}
 use Rattle.text.specs.Utf8.{chars}
+use Rattle.text.specs.declared.parts.Part.{Part}
 use Rattle.records.specs.Blocks.{Span, Kind, heading, paragraph, item}
-use Rattle.records.specs.Decode.{Parse, failed, parsed, spans_at, block_at}
-use Rattle.walker.specs.Answers.{Answer, at_end, refused, gives, span_in}
+use Rattle.records.specs.Decode.{Parse, failed, parsed, ◌▹◌, part, spans_at, block_at}
+use Rattle.walker.specs.Answers.{at_end, refused, gives, span_in}
 use Rattle.walker.specs.Places.{nowhere, marker_from, text_place}
-use Rattle.walker.specs.declared.fields.Number.{Number}
-use Rattle.walker.specs.declared.fields.Number.TheVariants.{Value, Bad}
-use Rattle.walker.specs.declared.reader.Part.{Part}
-use Rattle.walker.specs.declared.reader.Part.TheVariants as P
-use Rattle.walker.specs.declared.reader.SpanRead.{SpanRead}
-use Rattle.walker.specs.declared.reader.SpanRead.TheVariants as S
-use Rattle.walker.specs.declared.reader.SpansEnd.{SpansEnd}
-use Rattle.walker.specs.declared.reader.SpansEnd.TheVariants as E
-use Rattle.walker.specs.declared.reader.Kind as K
-use Rattle.walker.specs.declared.reader.Kind.TheVariants as KV
-use Rattle.walker.specs.declared.reader.KindRead.{KindRead}
-use Rattle.walker.specs.declared.reader.KindRead.TheVariants as KR
+use Rattle.walker.specs.declared.blocks.Broken.{Broken}
+use Rattle.walker.specs.declared.blocks.Kind as K
+use Rattle.walker.specs.declared.blocks.Kind.TheVariants as KV
+use Rattle.walker.specs.declared.blocks.Span as S
+use Rattle.walker.specs.declared.cursor.Cursor.{Cursor}
+use Rattle.walker.specs.declared.reader.Fields.{Fields}
 use Rattle.walker.specs.declared.reader.Whole.{Whole}
-use Rattle.walker.specs.declared.reader.Whole.TheVariants as W
-use Rattle.walker.specs.declared.Range.{Range}
-use Rattle.walker.specs.declared.Nth.{Nth}
-use Rattle.walker.specs.declared.Nth.TheVariants as N
 
--- an integer
-abbrev pub number_parse : List ℕ → Number → Parse ℕ
-number_parse s (Value n next) = parsed n (drop next s)
-number_parse s Bad = failed
+-- what is left to read
+abbrev pub left : Cursor → List ℕ
+left c = drop c.at c.bytes.now
 
-abbrev pub number_next : Number → ℕ
-number_next (Value n next) = next
-number_next Bad = 0
+-- the same bytes, and an offset within them
+abbrev pub Moved : Cursor → Cursor → Type 0
+Moved c d = (d.bytes ≡ c.bytes) × (d.at ≤ length d.bytes.now)
 
-pub record NumberIs (p : Parse ℕ) (s : List ℕ) (r : Number) : Type 0 where
-  pub read : p ≡ number_parse s r
-  pub within : number_next r ≤ length s
+-- the value of what was read, and where its parts stand
+abbrev pub Reads : {A V : Type 0} → (V → A) → (V → Type 0) → Parse A → Cursor → Cursor → code.Result V Broken → Type 0
+Reads value placed p c d (Ok v) = (p ≡ parsed (value v) (left d)) × Moved c d × placed v
+Reads value placed p c d (Err e) = p ≡ failed
+
+-- a byte
+abbrev pub ByteIs : Cursor → Cursor → code.Result ℕ Broken → Type 0
+ByteIs c d (Ok b) = (left c ≡ b ∷ left d) × Moved c d × (d.at ≡ c.at + 1)
+ByteIs c d (Err e) = left c ≡ []
+
+-- an integer of k bytes, the lowest first
+abbrev pub worth : List ℕ → ℕ
+worth [] = 0
+worth (b ∷ s) = b + 256 * worth s
+
+unfoldable pub integer : ℕ → List ℕ → Parse ℕ
+integer k s = part k s ▹ λ t r. parsed (worth t) r
+
+abbrev pub CountIs : Parse ℕ → Cursor → Cursor → code.Result ℕ Broken → Type 0
+CountIs p c d r = Reads (λ n. n) (λ n. Unit {0}) p c d r
+
+abbrev pub NumberIs : ℕ → Cursor → Cursor → code.Result ℕ Broken → Type 0
+NumberIs k c d r = CountIs (integer k (left c)) c d r
 
 -- a text, by the offsets of its bytes
-abbrev pub part_parse : List ℕ → Part → Parse (List ℕ)
-part_parse s (P.At start end) = parsed (chars (between s start end)) (drop end s)
-part_parse s P.Bad = failed
+abbrev pub text_in : List ℕ → Part → List ℕ
+text_in s p = chars (between s p.start p.end)
 
-abbrev pub part_placed : List ℕ → Part → Type 0
-part_placed s (P.At start end) = Inside s start end
-part_placed s P.Bad = Unit {0}
-
-pub record PartIs (p : Parse (List ℕ)) (s : List ℕ) (r : Part) : Type 0 where
-  pub read : p ≡ part_parse s r
-  pub placed : part_placed s r
+abbrev pub TextIs : Parse (List ℕ) → Cursor → Cursor → code.Result Part Broken → Type 0
+TextIs p c d r = Reads (text_in c.bytes.now) (λ t. (t.start ≤ t.end) × (t.end ≡ d.at)) p c d r
 
 -- a span
-abbrev pub span_parse : List ℕ → SpanRead → Parse Span
-span_parse s (S.At b i c start end) =
-    parsed (record { text = chars (between s start end); bold = b; italic = i; code = c }) (drop end s)
-span_parse s S.Bad = failed
+abbrev pub span_of : List ℕ → S.Span → Span
+span_of s x = record { text = text_in s x.text; bold = x.emphasis.bold; italic = x.emphasis.italic; code = x.emphasis.code }
 
-abbrev pub span_placed : List ℕ → SpanRead → Type 0
-span_placed s (S.At b i c start end) = Inside s start end
-span_placed s S.Bad = Unit {0}
+-- whose map byte is m
+abbrev pub span_with : ℕ → Part → S.Span
+span_with m text =
+    record { emphasis = record { bold = eqb (m % 2) 1; italic = eqb (m / 2 % 2) 1; code = eqb (m / 4 % 2) 1 }; text = text; next = text.end }
 
--- the span whose map byte is m
-abbrev pub span_with : ℕ → ℕ → ℕ → SpanRead
-span_with m start end = S.At (eqb (m % 2) 1) (eqb (m / 2 % 2) 1) (eqb (m / 4 % 2) 1) start end
+abbrev pub span_placed : Cursor → S.Span → Type 0
+span_placed d x = (x.text.start ≤ x.text.end) × (x.text.end ≡ d.at) × (x.next ≡ d.at)
 
-pub record SpanIs (p : Parse Span) (s : List ℕ) (r : SpanRead) : Type 0 where
-  pub read : p ≡ span_parse s r
-  pub placed : span_placed s r
+abbrev pub SpanIs : Parse Span → Cursor → Cursor → code.Result S.Span Broken → Type 0
+SpanIs p c d r = Reads (span_of c.bytes.now) (span_placed d) p c d r
 
 -- where a reading ends, whatever was read
 abbrev pub rest : {A : Type 0} → Parse A → Parse (Unit {0})
 rest failed = failed
 rest (parsed a r) = parsed tt r
 
-abbrev pub end_parse : List ℕ → SpansEnd → Parse (Unit {0})
-end_parse s (E.At next) = parsed tt (drop next s)
-end_parse s E.Bad = failed
-
-abbrev pub end_next : SpansEnd → ℕ
-end_next (E.At next) = next
-end_next E.Bad = 0
-
-pub record EndIs {A : Type 0} (p : Parse A) (s : List ℕ) (r : SpansEnd) : Type 0 where
-  pub read : rest p ≡ end_parse s r
-  pub within : end_next r ≤ length s
+abbrev pub EndIs : {A : Type 0} → Parse A → Cursor → Cursor → code.Result (Unit {0}) Broken → Type 0
+EndIs p c d r = Reads (λ u. tt) (λ u. Unit {0}) (rest p) c d r
 
 -- the fields of a kind, of which a marker is the last
-abbrev pub kind_of : List ℕ → K.Kind → Kind
-kind_of s (KV.Heading l) = heading l
-kind_of s KV.Paragraph = paragraph
-kind_of s (KV.Item d start end) = item d (chars (between s start end))
+abbrev pub kind_of : List ℕ → K.Kind → Part → Kind
+kind_of s (KV.Heading l) m = heading l
+kind_of s KV.Paragraph m = paragraph
+kind_of s (KV.Item d) m = item d (text_in s m)
 
-abbrev pub kind_ended : ℕ → K.Kind → Type 0
-kind_ended next (KV.Heading l) = Unit {0}
-kind_ended next KV.Paragraph = Unit {0}
-kind_ended next (KV.Item d start end) = (start ≤ end) × (end ≡ next)
+abbrev pub marker_ended : ℕ → K.Kind → Part → Type 0
+marker_ended next (KV.Heading l) m = m ≡ nowhere
+marker_ended next KV.Paragraph m = m ≡ nowhere
+marker_ended next (KV.Item d) m = (m.start ≤ m.end) × (m.end ≡ next)
 
-abbrev pub kind_parse : List ℕ → KindRead → Parse Kind
-kind_parse s (KR.At k next) = parsed (kind_of s k) (drop next s)
-kind_parse s KR.Bad = failed
+abbrev pub FieldsIs : Parse Kind → Cursor → Cursor → code.Result Fields Broken → Type 0
+FieldsIs p c d r = Reads (λ f. kind_of c.bytes.now f.kind f.marker) (λ f. marker_ended d.at f.kind f.marker) p c d r
 
-abbrev pub kind_read_placed : List ℕ → KindRead → Type 0
-kind_read_placed s (KR.At k next) = kind_ended next k × (next ≤ length s)
-kind_read_placed s KR.Bad = Unit {0}
+-- a marker's place, in a block at an offset
+abbrev pub marker_placed : List ℕ → ℕ → K.Kind → Part → Type 0
+marker_placed s at (KV.Heading l) m = m ≡ nowhere
+marker_placed s at KV.Paragraph m = m ≡ nowhere
+marker_placed s at (KV.Item d) m = Inside s m.start m.end × (m.start ≡ at + marker_from d)
 
-pub record KindIs (p : Parse Kind) (s : List ℕ) (r : KindRead) : Type 0 where
-  pub read : p ≡ kind_parse s r
-  pub placed : kind_read_placed s r
-
--- the same, in a block at an offset
-abbrev pub kind_placed : List ℕ → ℕ → K.Kind → Type 0
-kind_placed s at (KV.Heading l) = Unit {0}
-kind_placed s at KV.Paragraph = Unit {0}
-kind_placed s at (KV.Item d start end) = Inside s start end × (start ≡ at + marker_from d)
-
--- a whole block, whose spans xs start at first
-pub record Found (s : List ℕ) (at : ℕ) (k : K.Kind) (n first next : ℕ) : Type 0 where
+-- a whole block, whose spans xs start at its first offset
+pub record Found (s : List ℕ) (at : ℕ) (w : Whole) : Type 0 where
   pub xs : List Span
-  pub spans : spans_at n (drop first s) ≡ parsed xs (drop next s)
-  pub block : block_at (drop at s) ≡ parsed (record { kind = kind_of s k; spans = xs }) (drop next s)
-  pub placed : kind_placed s at k
-  pub starts : first ≤ length s
-  pub within : next ≤ length s
+  pub spans : spans_at w.block.count (drop w.first s) ≡ parsed xs (drop w.block.next s)
+  pub block : block_at (drop at s) ≡ parsed (record { kind = kind_of s w.block.kind w.marker; spans = xs }) (drop w.block.next s)
+  pub placed : marker_placed s at w.block.kind w.marker
+  pub starts : w.first ≤ length s
+  pub within : w.block.next ≤ length s
 
-abbrev pub WholeIs : List ℕ → ℕ → Whole → Type 0
-WholeIs s at (W.At k n first next) = Found s at k n first next
-WholeIs s at W.Bad = block_at (drop at s) ≡ failed
+abbrev pub BlockIs : List ℕ → ℕ → code.Result (code.Option Whole) Broken → Type 0
+BlockIs s at (Ok (Some w)) = Found s at w
+BlockIs s at (Ok None) = at ≡ length s
+BlockIs s at (Err e) = (at ≡ length s → ⊥) × (block_at (drop at s) ≡ failed)
 
--- a span of the block at an offset
-abbrev pub nth_asked : List ℕ → Nth → Answer Span
-nth_asked s (N.At b i c start end) = gives (record { text = chars (between s start end); bold = b; italic = i; code = c })
-nth_asked s N.End = at_end
-nth_asked s N.Bad = refused 7
-
-abbrev pub nth_at : Nth → Range
-nth_at (N.At b i c start end) = record { start = start; end = end }
-nth_at N.End = nowhere
-nth_at N.Bad = nowhere
-
-pub record NthIs (s : List ℕ) (at n : ℕ) (r : Nth) : Type 0 where
-  pub read : span_in s at n ≡ nth_asked s r
-  pub placed : text_place s at n ≡ nth_at r
+-- a span of the block at an offset, and where its text stands
+abbrev pub NthIs : List ℕ → ℕ → ℕ → code.Result (code.Option S.Span) Broken → Type 0
+NthIs s at n (Ok (Some x)) = (span_in s at n ≡ gives (span_of s x)) × (text_place s at n ≡ x.text)
+NthIs s at n (Ok None) = (span_in s at n ≡ at_end) × (text_place s at n ≡ nowhere)
+NthIs s at n (Err e) = (span_in s at n ≡ refused 7) × (text_place s at n ≡ nowhere)

@@ -1,5 +1,6 @@
 // The walker: what stands at an offset of lent records (crate `records`). Numbers and texts come from separate calls; a text is a part
-// of the records, and empty where there is none. `reader` reads one block, `fields` its integers and its marker.
+// of the records, and empty where there is none. `blocks` has what is found, `reader` reads one block, by `cursor` its
+// bytes and integers, and `markers` tests a marker.
 #![tactic(auto)]
 
 ghost use Rattle.std.specs.Prelude.{◌≡◌};
@@ -10,56 +11,22 @@ ghost use Rattle.walker.specs.Places.{marker_place, text_place, marker_part, tex
 ghost use Rattle.walker.specs.Decoded.{blocks_from, is_whole};
 ghost use Rattle.walker.specs.Readers.{NthIs};
 
-mod fields;
+mod blocks;
+mod cursor;
+mod markers;
 mod reader;
 
-use crate::reader::{Kind, SpanRead, SpansEnd, Whole, span_read, spans_end, whole_at};
+use crate::cursor::Cursor;
+use crate::reader::{NOWHERE, block_read};
+pub use blocks::{Block, Broken, Emphasis, Kind, Span};
+use text::Part;
 
-// What the walker finds at an offset. Bad is number 7.
-#[derive(Clone, Copy)]
-pub enum BlockAnswer {
-    Heading {
-        level: usize,
-        count: usize,
-        next: usize,
-    },
-    Paragraph {
-        count: usize,
-        next: usize,
-    },
-    Item {
-        depth: usize,
-        count: usize,
-        next: usize,
-    },
-    End,
-    Bad,
-}
-
-pub fn block_at(records: &[u8], at: usize) -> BlockAnswer
+// The block at an offset; none at the end of the records.
+#[tactic(auto, using(crate::proofs::WalkerLaws::block_is))]
+pub fn block_at(records: &[u8], at: usize) -> Result<Option<Block>, Broken>
     ensures { block_values result ≡ block_answer records.now at }
 {
-    if at == records.len() {
-        return BlockAnswer::End;
-    }
-    let Whole::At {
-        kind,
-        count,
-        first: _,
-        next,
-    } = whole_at(records, at)
-    else {
-        return BlockAnswer::Bad;
-    };
-    match kind {
-        Kind::Heading { level } => BlockAnswer::Heading { level, count, next },
-        Kind::Paragraph => BlockAnswer::Paragraph { count, next },
-        Kind::Item {
-            depth,
-            start: _,
-            end: _,
-        } => BlockAnswer::Item { depth, count, next },
-    }
+    Ok(block_read(records, at)?.map(|whole| whole.block))
 }
 
 // Whether well-formed blocks, and nothing else, stand from an offset on up to the end of the records.
@@ -69,238 +36,94 @@ pub fn is_whole(records: &[u8], from: usize) -> bool
     let mut at = from;
     loop {
         match block_at(records, at) {
-            BlockAnswer::Heading {
-                level: _,
-                count: _,
-                next,
-            } => at = next,
-            BlockAnswer::Paragraph { count: _, next } => at = next,
-            BlockAnswer::Item {
-                depth: _,
-                count: _,
-                next,
-            } => at = next,
-            BlockAnswer::End => return true,
-            BlockAnswer::Bad => return false,
+            Ok(Some(block)) => at = block.next,
+            Ok(None) => return true,
+            Err(Broken) => return false,
         }
     }
 }
 
-// Where a part of the records stands.
-#[derive(Clone, Copy)]
-pub struct Range {
-    pub start: usize,
-    pub end: usize,
-}
-
 // Where the marker of the item at an offset stands; empty where there is none.
-pub fn marker_range(records: &[u8], at: usize) -> Range
+#[tactic(auto, using(crate::proofs::WalkerLaws::marker_is))]
+pub fn marker_range(records: &[u8], at: usize) -> Part
     ensures { result ≡ marker_place records.now at }
 {
-    let Whole::At {
-        kind,
-        count: _,
-        first: _,
-        next: _,
-    } = whole_at(records, at)
-    else {
-        return Range { start: 0, end: 0 };
+    let Ok(Some(whole)) = block_read(records, at) else {
+        return NOWHERE;
     };
-    let Kind::Item {
-        depth: _,
-        start,
-        end,
-    } = kind
-    else {
-        return Range { start: 0, end: 0 };
-    };
-    Range { start, end }
+    whole.marker
 }
 
 // The marker of the item at an offset, the part of the records that stands at its range; empty where there is none.
+#[tactic(auto, using(crate::proofs::PlaceLaws::marker_inside, crate::proofs::PlaceLaws::marker_bytes))]
 pub fn marker_at(records: &[u8], at: usize) -> &[u8]
     ensures { (result.now ≡ encode (marker_answer records.now at)) × (result ≡ marker_part records.entry at) }
 {
-    let range = marker_range(records, at);
-    let start = range.start;
-    let end = range.end;
-    &records[start..end]
+    marker_range(records, at).of(records)
 }
 
-// A span of a block, with its text's place.
-#[derive(Clone, Copy)]
-pub(crate) enum Nth {
-    At {
-        bold: bool,
-        italic: bool,
-        code: bool,
-        start: usize,
-        end: usize,
-    },
-    End,
-    Bad,
-}
-
-fn nth_at(s: &[u8], at: usize, n: usize) -> Nth
+// A span of a block; none from the block's span count on, and at the end of the records.
+fn nth_at(s: &[u8], at: usize, n: usize) -> Result<Option<Span>, Broken>
     ensures { NthIs s.now at n result }
 {
-    if at == s.len() {
-        return Nth::End;
-    }
-    let Whole::At {
-        kind: _,
-        count,
-        first,
-        next: _,
-    } = whole_at(s, at)
-    else {
-        return Nth::Bad;
+    let Some(whole) = block_read(s, at)? else {
+        return Ok(None);
     };
-    if count <= n {
-        return Nth::End;
+    if whole.block.count <= n {
+        return Ok(None);
     }
-    let SpansEnd::At { next } = spans_end(s, first, n) else {
-        return Nth::Bad;
+    let mut cursor = Cursor {
+        bytes: s,
+        at: whole.first,
     };
-    let SpanRead::At {
-        bold,
-        italic,
-        code,
-        start,
-        end,
-    } = span_read(s, next)
-    else {
-        return Nth::Bad;
-    };
-    Nth::At {
-        bold,
-        italic,
-        code,
-        start,
-        end,
-    }
+    cursor.spans(n)?;
+    Ok(Some(cursor.span()?))
 }
 
-// What the walker finds of a span. Bad is number 7.
-#[derive(Clone, Copy)]
-pub enum SpanAnswer {
-    Span {
-        bold: bool,
-        italic: bool,
-        code: bool,
-    },
-    End,
-    Bad,
-}
-
-pub fn span_at(records: &[u8], at: usize, n: usize) -> SpanAnswer
+// The emphasis of a span; none where there is no such span.
+#[tactic(auto, using(crate::proofs::WalkerLaws::span_is))]
+pub fn span_at(records: &[u8], at: usize, n: usize) -> Result<Option<Emphasis>, Broken>
     ensures { span_values result ≡ span_answer records.now at n }
 {
-    match nth_at(records, at, n) {
-        Nth::At {
-            bold,
-            italic,
-            code,
-            start: _,
-            end: _,
-        } => SpanAnswer::Span { bold, italic, code },
-        Nth::End => SpanAnswer::End,
-        Nth::Bad => SpanAnswer::Bad,
-    }
+    Ok(nth_at(records, at, n)?.map(|span| span.emphasis))
 }
 
 // Where the text of a span stands; empty where there is none.
-pub fn text_range(records: &[u8], at: usize, n: usize) -> Range
+pub fn text_range(records: &[u8], at: usize, n: usize) -> Part
     ensures { result ≡ text_place records.now at n }
 {
-    let Nth::At {
-        bold: _,
-        italic: _,
-        code: _,
-        start,
-        end,
-    } = nth_at(records, at, n)
-    else {
-        return Range { start: 0, end: 0 };
+    let Ok(Some(span)) = nth_at(records, at, n) else {
+        return NOWHERE;
     };
-    Range { start, end }
+    span.text
 }
 
 // The text of a span, the part of the records that stands at its range; empty where there is none.
+#[tactic(auto, using(crate::proofs::PlaceLaws::text_inside, crate::proofs::PlaceLaws::text_bytes))]
 pub fn text_at(records: &[u8], at: usize, n: usize) -> &[u8]
     ensures { (result.now ≡ encode (text_answer records.now at n)) × (result ≡ text_part records.entry at n) }
 {
-    let range = text_range(records, at, n);
-    let from = range.start;
-    let to = range.end;
-    &records[from..to]
+    text_range(records, at, n).of(records)
 }
 
 // The calls above test the whole block each time. Whoever wants all its spans asks once where the first one stands, and then for each
 // span by its own offset, which the span before it gives: that takes time in proportion to the block.
 
-// Where the first span of a block stands; where there is none, the block's end. Bad is number 7.
-#[derive(Clone, Copy)]
-pub enum FirstAnswer {
-    At(usize),
-    End,
-    Bad,
-}
-
-pub fn first_at(records: &[u8], at: usize) -> FirstAnswer
+// Where the first span of a block stands, or the block's end where it has none; none at the end of the records.
+#[tactic(auto, using(crate::proofs::WalkerLaws::first_is))]
+pub fn first_at(records: &[u8], at: usize) -> Result<Option<usize>, Broken>
     ensures { first_values result ≡ first_answer records.now at }
 {
-    if records.len() == at {
-        return FirstAnswer::End;
-    }
-    let Whole::At {
-        kind: _,
-        count: _,
-        first,
-        next: _,
-    } = whole_at(records, at)
-    else {
-        return FirstAnswer::Bad;
-    };
-    FirstAnswer::At(first)
+    Ok(block_read(records, at)?.map(|whole| whole.first))
 }
 
-// A span by its own offset: its emphasis, where its text starts and ends, and where the next span stands, or the next block behind the
-// last span. Bad is number 7.
-#[derive(Clone, Copy)]
-pub enum HereAnswer {
-    Span {
-        bold: bool,
-        italic: bool,
-        code: bool,
-        start: usize,
-        end: usize,
-        next: usize,
-    },
-    Bad,
-}
-
-pub fn here_at(records: &[u8], at: usize) -> HereAnswer
+// A span by its own offset.
+#[tactic(auto, using(crate::proofs::WalkerLaws::here_is))]
+pub fn here_at(records: &[u8], at: usize) -> Result<Span, Broken>
     ensures { here_values result ≡ here_answer records.now at }
 {
-    let SpanRead::At {
-        bold,
-        italic,
-        code,
-        start,
-        end,
-    } = span_read(records, at)
-    else {
-        return HereAnswer::Bad;
-    };
-    HereAnswer::Span {
-        bold,
-        italic,
-        code,
-        start,
-        end,
-        next: end,
-    }
+    let mut cursor = Cursor { bytes: records, at };
+    cursor.span()
 }
 
 // The walker: the lent records and an offset. Its functions take it apart and call those above.
@@ -319,7 +142,7 @@ impl<'a> Walker<'a> {
     }
 
     // The block at the offset.
-    pub fn block(self) -> BlockAnswer
+    pub fn block(self) -> Result<Option<Block>, Broken>
         ensures { block_values result ≡ block_answer self.entry.records.now self.entry.at }
     {
         block_at(self.records, self.at)
@@ -341,7 +164,7 @@ impl<'a> Walker<'a> {
 }
 
 // The block at an offset, through the struct: a caller needs the records and a number alone.
-pub fn walk(records: &[u8], offset: usize) -> BlockAnswer
+pub fn walk(records: &[u8], offset: usize) -> Result<Option<Block>, Broken>
     ensures { block_values result ≡ block_answer records.now offset }
 {
     Walker::new(records, offset).block()

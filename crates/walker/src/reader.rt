@@ -1,272 +1,211 @@
-// Reading a block of lent bytes. Each reader answers what it found at an offset, and the offset after it.
-ghost use Rattle.std.specs.Prelude.{◌≡◌, ◌≤◌, length, drop};
+// Reading a block from a cursor's offset on. The readers of spans and of their texts are inlined: a call costs more than to read a span
+// without text, and keeps the cursor in memory.
+ghost use Rattle.std.specs.Prelude.{◌≡◌, ◌≤◌, length};
 ghost use Rattle.records.specs.Decode.{text_at, span_at, spans_at, level_at, marker_at, item_at, kind_at, count_at};
-ghost use Rattle.walker.specs.Readers.{NumberIs, PartIs, SpanIs, span_with, EndIs, KindIs, WholeIs};
+ghost use Rattle.walker.specs.Readers.{left, TextIs, SpanIs, span_with, EndIs, FieldsIs, CountIs, BlockIs};
 
-use crate::fields::{Number, is_marker, u16_at, u32_at, wide};
+use crate::blocks::{Block, Broken, Emphasis, Kind, Span};
+use crate::cursor::Cursor;
+use crate::markers::is_marker;
+use text::Part;
 
-// A part of the records.
-#[derive(Clone, Copy)]
-enum Part {
-    At { start: usize, end: usize },
-    Bad,
-}
+// Where a text stands that is not there.
+pub(crate) const NOWHERE: Part = Part { start: 0, end: 0 };
 
-// A span's text, which is not empty: its length and its bytes.
-fn text_read(s: &[u8], at: usize) -> Part
-    ensures { PartIs (text_at (drop at s.now)) s.now result }
+// The span whose map byte is m, with its text's place. The next span starts where the text ends.
+fn span_of(m: u8, text: Part) -> Span
+    ensures { result ≡ span_with m text }
 {
-    let Number::Value { value: size, next } = u32_at(s, at) else {
-        return Part::Bad;
-    };
-    if size < 1 {
-        return Part::Bad;
-    }
-    if s.len() - next < size {
-        return Part::Bad;
-    }
-    let end = next + size;
-    if text::is_utf8(&s[next..end]) {
-        Part::At { start: next, end }
-    } else {
-        Part::Bad
-    }
-}
-
-// A span's emphasis, and where its text starts and ends. The next span starts where the text ends.
-#[derive(Clone, Copy)]
-pub(crate) enum SpanRead {
-    At {
-        bold: bool,
-        italic: bool,
-        code: bool,
-        start: usize,
-        end: usize,
-    },
-    Bad,
-}
-
-// The span whose map byte is m, with its text's place.
-fn span_of(m: u8, start: usize, end: usize) -> SpanRead
-    ensures { result ≡ span_with m start end }
-{
-    SpanRead::At {
+    let emphasis = Emphasis {
         bold: m % 2 == 1,
         italic: m / 2 % 2 == 1,
         code: m / 4 % 2 == 1,
-        start,
-        end,
-    }
-}
-
-pub(crate) fn span_read(s: &[u8], at: usize) -> SpanRead
-    ensures { SpanIs (span_at (drop at s.now)) s.now result }
-{
-    if s.len() <= at {
-        return SpanRead::Bad;
-    }
-    let m = s[at];
-    if m < 4 {
-        return SpanRead::Bad;
-    }
-    if 16 <= m {
-        return SpanRead::Bad;
-    }
-    let from = at + 1;
-    if m < 8 {
-        return span_of(m, from, from);
-    }
-    let Part::At { start, end } = text_read(s, from) else {
-        return SpanRead::Bad;
     };
-    span_of(m, start, end)
+    Span {
+        emphasis,
+        text,
+        next: text.end,
+    }
 }
 
-// Where n spans end.
+// A block's kind, and where its marker stands, which is an item's last field.
 #[derive(Clone, Copy)]
-pub(crate) enum SpansEnd {
-    At { next: usize },
-    Bad,
+pub(crate) struct Fields {
+    pub kind: Kind,
+    pub marker: Part,
 }
 
-pub(crate) fn spans_end(s: &[u8], at: usize, n: usize) -> SpansEnd
-    requires { at ≤ length s.now }
-    ensures { EndIs (spans_at n (drop at s.now)) s.now result }
-{
-    let mut left = n;
-    let mut next = at;
-    while 0 < left {
-        let SpanRead::At {
-            bold: _,
-            italic: _,
-            code: _,
-            start: _,
-            end,
-        } = span_read(s, next)
-        else {
-            return SpansEnd::Bad;
-        };
-        next = end;
-        left -= 1;
-    }
-    SpansEnd::At { next }
-}
-
-// The fields that a block's kind has. A marker's text is a part of the records.
-#[derive(Clone, Copy)]
-pub(crate) enum Kind {
-    Heading {
-        level: usize,
-    },
-    Paragraph,
-    Item {
-        depth: usize,
-        start: usize,
-        end: usize,
-    },
-}
-
-#[derive(Clone, Copy)]
-enum KindRead {
-    At { kind: Kind, next: usize },
-    Bad,
-}
-
-fn level_at(s: &[u8], at: usize) -> KindRead
-    ensures { KindIs (level_at (drop at s.now)) s.now result }
-{
-    if s.len() <= at {
-        return KindRead::Bad;
-    }
-    let level = wide(s[at]);
-    if level < 1 {
-        return KindRead::Bad;
-    }
-    if 3 < level {
-        return KindRead::Bad;
-    }
-    KindRead::At {
-        kind: Kind::Heading { level },
-        next: at + 1,
-    }
-}
-
-// The marker of an item.
-fn marker_read(s: &[u8], at: usize, depth: usize) -> KindRead
-    ensures { KindIs (marker_at depth (drop at s.now)) s.now result }
-{
-    if s.len() <= at {
-        return KindRead::Bad;
-    }
-    let n = wide(s[at]);
-    let start = at + 1;
-    if s.len() - start < n {
-        return KindRead::Bad;
-    }
-    let end = start + n;
-    if is_marker(&s[start..end]) {
-        KindRead::At {
-            kind: Kind::Item { depth, start, end },
-            next: end,
+impl<'a> Cursor<'a> {
+    // A span's text, which is not empty: its length and its bytes.
+    #[tactic(auto, using(std::proofs::lemmas::Bool::Decides::nat_tests, crate::proofs::Integers::u32_is, crate::proofs::Spans::part_short, crate::proofs::Spans::part_is), unfolding(records::specs::Decode::text_at))]
+    #[inline(always)]
+    fn text(&mut self) -> Result<Part, Broken>
+        ensures { TextIs (text_at (left self.old)) self.old self.new result }
+    {
+        let size = self.number::<4>()?;
+        if size < 1 {
+            return Err(Broken);
         }
-    } else {
-        KindRead::Bad
+        let start = self.at;
+        if self.bytes.len() - start < size {
+            return Err(Broken);
+        }
+        let end = start + size;
+        if !text::is_utf8(&self.bytes[start..end]) {
+            return Err(Broken);
+        }
+        self.at = end;
+        Ok(Part { start, end })
     }
-}
 
-// An item whose depth is not 0.
-fn item_at(s: &[u8], at: usize) -> KindRead
-    ensures { KindIs (item_at (drop at s.now)) s.now result }
-{
-    let Number::Value { value: depth, next } = u16_at(s, at) else {
-        return KindRead::Bad;
-    };
-    if depth < 1 {
-        return KindRead::Bad;
+    #[tactic(auto, using(std::proofs::lemmas::Bool::Decides::nat_tests, text::proofs::Laws::chars_nil), unfolding(records::specs::Decode::span_at))]
+    #[inline(always)]
+    pub(crate) fn span(&mut self) -> Result<Span, Broken>
+        ensures { SpanIs (span_at (left self.old)) self.old self.new result }
+    {
+        let m = self.byte()?;
+        if !(4..16).contains(&m) {
+            return Err(Broken);
+        }
+        if m < 8 {
+            let none = Part {
+                start: self.at,
+                end: self.at,
+            };
+            return Ok(span_of(m, none));
+        }
+        let text = self.text()?;
+        Ok(span_of(m, text))
     }
-    marker_read(s, next, depth)
-}
 
-// The fields of the map's bits 0 to 2.
-fn kind_at(s: &[u8], at: usize, bits: u8) -> KindRead
-    requires { at ≤ length s.now }
-    ensures { KindIs (kind_at bits (drop at s.now)) s.now result }
-{
-    if bits == 0 {
-        return KindRead::At {
-            kind: Kind::Paragraph,
-            next: at,
-        };
+    // Past n spans.
+    #[tactic(auto, using(crate::proofs::Spans::spans_bad, crate::proofs::Spans::spans_next, crate::proofs::Spans::spans_none))]
+    #[inline(always)]
+    pub(crate) fn spans(&mut self, n: usize) -> Result<(), Broken>
+        requires { self.old.at ≤ length self.old.bytes.now }
+        ensures { EndIs (spans_at n (left self.old)) self.old self.new result }
+    {
+        for _i in 0..n {
+            let _span = self.span()?;
+        }
+        Ok(())
     }
-    if bits == 1 {
-        return level_at(s, at);
-    }
-    if bits == 4 {
-        return marker_read(s, at, 0);
-    }
-    if bits == 6 {
-        return item_at(s, at);
-    }
-    KindRead::Bad
-}
 
-// The span count, where the map's bit 3 says that there is one.
-fn count_at(s: &[u8], at: usize, counted: bool) -> Number
-    requires { at ≤ length s.now }
-    ensures { NumberIs (count_at counted (drop at s.now)) s.now result }
-{
-    if counted {
-        let Number::Value { value: count, next } = u32_at(s, at) else {
-            return Number::Bad;
-        };
+    #[tactic(auto, using(std::proofs::lemmas::Bool::Decides::nat_tests), unfolding(records::specs::Decode::level_at, records::specs::Decode::only))]
+    fn level(&mut self) -> Result<Fields, Broken>
+        ensures { FieldsIs (level_at (left self.old)) self.old self.new result }
+    {
+        let level = usize::from(self.byte()?);
+        if !(1..=3).contains(&level) {
+            return Err(Broken);
+        }
+        Ok(Fields {
+            kind: Kind::Heading { level },
+            marker: NOWHERE,
+        })
+    }
+
+    // The marker of an item.
+    #[tactic(auto, using(std::proofs::lemmas::Bool::Decides::nat_tests), unfolding(records::specs::Decode::marker_at, records::specs::Decode::part))]
+    fn marker(&mut self, depth: usize) -> Result<Fields, Broken>
+        ensures { FieldsIs (marker_at depth (left self.old)) self.old self.new result }
+    {
+        let size = usize::from(self.byte()?);
+        let start = self.at;
+        if self.bytes.len() - start < size {
+            return Err(Broken);
+        }
+        let end = start + size;
+        if !is_marker(&self.bytes[start..end]) {
+            return Err(Broken);
+        }
+        self.at = end;
+        Ok(Fields {
+            kind: Kind::Item { depth },
+            marker: Part { start, end },
+        })
+    }
+
+    // An item whose depth is not 0.
+    #[tactic(auto, using(std::proofs::lemmas::Bool::Decides::nat_tests, crate::proofs::Integers::u16_is), unfolding(records::specs::Decode::item_at))]
+    fn item(&mut self) -> Result<Fields, Broken>
+        ensures { FieldsIs (item_at (left self.old)) self.old self.new result }
+    {
+        let depth = self.number::<2>()?;
+        if depth < 1 {
+            return Err(Broken);
+        }
+        self.marker(depth)
+    }
+
+    // The fields of the map's bits 0 to 2.
+    #[tactic(auto, using(std::proofs::lemmas::Bool::Decides::nat_tests), unfolding(records::specs::Decode::kind_at))]
+    fn kind(&mut self, bits: u8) -> Result<Fields, Broken>
+        requires { self.old.at ≤ length self.old.bytes.now }
+        ensures { FieldsIs (kind_at bits (left self.old)) self.old self.new result }
+    {
+        match bits {
+            0 => Ok(Fields {
+                kind: Kind::Paragraph,
+                marker: NOWHERE,
+            }),
+            1 => self.level(),
+            4 => self.marker(0),
+            6 => self.item(),
+            _ => Err(Broken),
+        }
+    }
+
+    // The span count, where the map's bit 3 says that there is one.
+    #[tactic(auto, using(std::proofs::lemmas::Bool::Decides::nat_tests, crate::proofs::Integers::u32_is), unfolding(records::specs::Decode::count_at))]
+    fn count(&mut self, counted: bool) -> Result<usize, Broken>
+        requires { self.old.at ≤ length self.old.bytes.now }
+        ensures { CountIs (count_at counted (left self.old)) self.old self.new result }
+    {
+        if !counted {
+            return Ok(0);
+        }
+        let count = self.number::<4>()?;
         if count < 1 {
-            return Number::Bad;
+            return Err(Broken);
         }
-        Number::Value { value: count, next }
-    } else {
-        Number::Value { value: 0, next: at }
+        Ok(count)
     }
 }
 
-// A whole block: its kind, its span count, where its spans start, and where the next block starts.
+// A block, and where its marker and its first span stand.
 #[derive(Clone, Copy)]
-pub(crate) enum Whole {
-    At {
-        kind: Kind,
-        count: usize,
-        first: usize,
-        next: usize,
-    },
-    Bad,
+pub(crate) struct Whole {
+    pub block: Block,
+    pub marker: Part,
+    pub first: usize,
 }
 
-pub(crate) fn whole_at(s: &[u8], at: usize) -> Whole
-    ensures { WholeIs s.now at result }
+// The block at an offset, or that the records end there.
+#[tactic(auto, using(std::proofs::lemmas::Bool::Decides::nat_tests, crate::proofs::Spans::rest_failed), unfolding(records::specs::Decode::block_at, records::specs::Decode::head_at))]
+pub(crate) fn block_read(bytes: &[u8], at: usize) -> Result<Option<Whole>, Broken>
+    ensures { BlockIs bytes.now at result }
 {
-    if s.len() <= at {
-        return Whole::Bad;
+    if at == bytes.len() {
+        return Ok(None);
     }
-    let m = s[at];
+    let mut cursor = Cursor { bytes, at };
+    let m = cursor.byte()?;
     if 16 <= m {
-        return Whole::Bad;
+        return Err(Broken);
     }
-    let KindRead::At { kind, next: fields } = kind_at(s, at + 1, m % 8) else {
-        return Whole::Bad;
-    };
-    let Number::Value {
-        value: count,
-        next: first,
-    } = count_at(s, fields, 8 <= m)
-    else {
-        return Whole::Bad;
-    };
-    let SpansEnd::At { next } = spans_end(s, first, count) else {
-        return Whole::Bad;
-    };
-    Whole::At {
-        kind,
+    let fields = cursor.kind(m % 8)?;
+    let count = cursor.count(8 <= m)?;
+    let first = cursor.at;
+    cursor.spans(count)?;
+    let block = Block {
+        kind: fields.kind,
         count,
+        next: cursor.at,
+    };
+    Ok(Some(Whole {
+        block,
+        marker: fields.marker,
         first,
-        next,
-    }
+    }))
 }

@@ -5,36 +5,36 @@ use native.Mathlib.Omega.{arith}
 use lib.Seq.{length-take-le}
 use Rattle.filter.proofs.ProgramLaws.{Called, called, refusal_stands, markdown_small, room_behind, markdown_stands}
 use Rattle.filter.proofs.convert.Goals as goal
-use Rattle.filter.proofs.convert.Goals.{After-html_to_markdown-a}
+use Rattle.filter.proofs.convert.Goals.{After-html_to_markdown}
 
 pub slice_bounds-html_to_markdown-end-3 : goal.slice_bounds-html_to_markdown-end-3
 slice_bounds-html_to_markdown-end-3 c = sym (length-take-le 32000 c.args.out.now (omega (arith, c.requires)))
 
 -- what is known of the answer and of the front of the buffer, once the converter has run
-converted : (c : After-html_to_markdown-a)
-    → Called c.args.page.now c.args.out.now c.html_to_markdown-a.result c.html_to_markdown-a.new.res
+converted : (c : After-html_to_markdown)
+    → Called c.args.page.now c.args.out.now c.html_to_markdown.result c.html_to_markdown.new.res
 converted c =
-    let call = c.html_to_markdown-a in
+    let call = c.html_to_markdown in
     called _ _ _ _ c.requires call.auto.res call.ensures.result_value call.ensures.res_after
 
-pub returns-in_default : goal.returns-in_default
-returns-in_default c =
-    let run = converted (goal.at.returns-in_default c).After-html_to_markdown-a in
-    refusal_stands _ _ _ _ run c.in_default.not-Length _ _ c.refuse.ensures.0 c.refuse.ensures.1
+pub returns-in-Err : goal.returns-in-Err
+returns-in-Err c =
+    let run = converted (goal.at.returns-in-Err c).After-html_to_markdown in
+    refusal_stands _ _ _ _ run c.in-Err.error c.in-Err.is _ _ c.refuse.ensures.0 c.refuse.ensures.1
 
 pub bounds-out-n : goal.bounds-out-n
 bounds-out-n c =
-    let run = converted (goal.at.bounds-out-n c).After-html_to_markdown-a in
-    room_behind _ _ _ _ run c.in-Length.n c.in-Length.is
+    let run = converted (goal.at.bounds-out-n c).After-html_to_markdown in
+    room_behind _ _ _ _ run c.in-Ok.n c.in-Ok.is
 
 pub overflow_add-result : goal.overflow_add-result
 overflow_add-result c =
-    let run = converted (goal.at.overflow_add-result c).After-html_to_markdown-a in
-    let small = markdown_small _ _ _ _ run c.in-Length.n c.in-Length.is in
+    let run = converted (goal.at.overflow_add-result c).After-html_to_markdown in
+    let small = markdown_small _ _ _ _ run c.in-Ok.n c.in-Ok.is in
     omega arith
 
-pub returns : goal.returns
-returns c =
-    let run = converted (goal.at.returns c).After-html_to_markdown-a in
-    let stands = markdown_stands _ _ _ _ run c.in-Length.n c.in-Length.is in
+pub returns-in-Ok : goal.returns-in-Ok
+returns-in-Ok c =
+    let run = converted (goal.at.returns-in-Ok c).After-html_to_markdown in
+    let stands = markdown_stands _ _ _ _ run c.in-Ok.n c.in-Ok.is in
     (stands.0, stands.1)

@@ -1,104 +1,61 @@
 -- `html_to_markdown` meets its contract.
 -- Assumes nothing.
 use mathlib.Core.Path.{refl, sym, ◌∙◌}
+use Rattle.std.proofs.lemmas.Result.{err_from_is_err_and}
 use native.Mathlib.Omega.{arith}
-use lib.ListN.{length}
 use lib.Seq.{length-take-le}
-use borrow.Author.Tests.{not-true, not-false}
-use Rattle.html.specs.declared.Answer.TheVariants.{Length, NotUtf8, SmallWork, SmallResult, TooManyLists}
-use Rattle.html.proofs.FinishLaws.{cut_small, cut_within, read_scalars, call_1, call_2, call_3, call_4, call_empty, call_wrote, promised, no, yes}
+use Rattle.html.specs.declared.PageError.TheVariants.{NotUtf8, SmallWork, SmallResult, TooManyLists}
+use Rattle.std.specs.Prelude.{Ok, Err}
+use Rattle.html.proofs.FinishLaws.{Cut, cut_small, cut_within, read_scalars, call_1, call_2, call_3, call_4, call_empty, call_wrote, promised}
 use Rattle.html.proofs.html_to_markdown.Goals as goal
+use Rattle.html.proofs.html_to_markdown.Goals.{After-cut_len-n}
+
+-- what is read of the page
+cut : (c : After-cut_len-n) → Cut c.args.page.now c.cut_len-n.result
+cut c = record { utf8 = sym c.is_utf8.ensures ∙ c.if-not-is_utf8.false; is = c.cut_len-n.ensures }
 
 pub returns-then-not-is_utf8 : goal.returns-then-not-is_utf8
-returns-then-not-is_utf8 c =
-    let p = c.args.page.now in
-    let w = c.args.work.now in
-    let r = c.args.res.now in
-    promised _ _ NotUtf8 r _ w _ (call_1 p (length w) (length r) (sym c.is_utf8.ensures ∙ c.if-not-is_utf8.true)) refl refl refl refl
+returns-then-not-is_utf8 c = promised _ _ (Err NotUtf8) _ _ _ _ (call_1 _ _ _ (sym c.is_utf8.ensures ∙ c.if-not-is_utf8.true)) refl refl refl refl
 
 pub overflow_mul-n : goal.overflow_mul-n
-overflow_mul-n c =
-    let k = cut_small _ (sym c.is_utf8.ensures ∙ c.if-not-is_utf8.false) _ c.cut_len-n.ensures in
-    omega arith
+overflow_mul-n c = omega (arith, cut_small _ _ (cut c))
 
 pub overflow_add-n : goal.overflow_add-n
-overflow_add-n c =
-    let k = cut_small _ (sym c.is_utf8.ensures ∙ c.if-not-is_utf8.false) _ c.cut_len-n.ensures in
-    omega arith
+overflow_add-n c = omega (arith, cut_small _ _ (cut (goal.at.overflow_add-n c).After-cut_len-n))
 
 pub returns-then-work-n : goal.returns-then-work-n
 returns-then-work-n c =
-    let p = c.args.page.now in
-    let w = c.args.work.now in
-    let r = c.args.res.now in
-    let u = sym c.is_utf8.ensures ∙ c.if-not-is_utf8.false in
-    let n = c.cut_len-n.result in
-    let e = c.cut_len-n.ensures in
-    promised _ _ SmallWork r _ w _ (call_2 p u n e (length w) (length r) c.if-work-n.true) refl refl refl refl
+    let k = cut (goal.at.returns-then-work-n c).After-cut_len-n in
+    promised _ _ (Err SmallWork) _ _ _ _ (call_2 _ _ k _ _ c.if-work-n.true) refl refl refl refl
 
 pub returns-then-res : goal.returns-then-res
 returns-then-res c =
-    let p = c.args.page.now in
-    let w = c.args.work.now in
-    let r = c.args.res.now in
-    let u = sym c.is_utf8.ensures ∙ c.if-not-is_utf8.false in
-    let n = c.cut_len-n.result in
-    let e = c.cut_len-n.ensures in
-    promised _ _ SmallResult r _ w _ (call_3 p u n e (length w) (length r) c.if-work-n.false c.if-res.true) refl refl refl refl
+    let k = cut (goal.at.returns-then-res c).After-cut_len-n in
+    promised _ _ (Err SmallResult) _ _ _ _ (call_3 _ _ k _ _ c.if-work-n.false c.if-res.true) refl refl refl refl
 
 pub returns-then-n-eq0 : goal.returns-then-n-eq0
 returns-then-n-eq0 c =
-    let p = c.args.page.now in
-    let w = c.args.work.now in
-    let r = c.args.res.now in
-    let u = sym c.is_utf8.ensures ∙ c.if-not-is_utf8.false in
-    let n = c.cut_len-n.result in
-    let e = c.cut_len-n.ensures in
-    promised _ _ (Length 0) r _ w _ (call_empty p u n e (length w) (length r) c.if-work-n.false c.if-res.false c.if-n-eq0.true) refl refl refl refl
+    let k = cut (goal.at.returns-then-n-eq0 c).After-cut_len-n in
+    promised _ _ (Ok 0) _ _ _ _ (call_empty _ _ k _ _ c.if-work-n.false c.if-res.false c.if-n-eq0.true) refl refl refl refl
 
 pub slice_bounds-convert-end : goal.slice_bounds-convert-end
-slice_bounds-convert-end c =
-    let p = c.args.page.now in
-    let u = sym c.is_utf8.ensures ∙ c.if-not-is_utf8.false in
-    let n = c.cut_len-n.result in
-    let e = c.cut_len-n.ensures in
-    sym (length-take-le n p (cut_within p u n e))
+slice_bounds-convert-end c = sym (length-take-le _ _ (cut_within _ _ (cut (goal.at.slice_bounds-convert-end c).After-cut_len-n)))
 
-pub convert-t-requires : goal.convert-t-requires
-convert-t-requires c =
-    let p = c.args.page.now in
-    let u = sym c.is_utf8.ensures ∙ c.if-not-is_utf8.false in
-    let n = c.cut_len-n.result in
-    let e = c.cut_len-n.ensures in
-    (omega (arith, length-take-le n p (cut_within p u n e), c.if-work-n.false), read_scalars p u n e)
+pub convert-requires : goal.convert-requires
+convert-requires c =
+    let k = cut (goal.at.convert-requires c).After-cut_len-n in
+    (omega (arith, length-take-le _ _ (cut_within _ _ k), c.if-work-n.false), read_scalars _ _ k)
 
-pub returns-then-not-t : goal.returns-then-not-t
-returns-then-not-t c =
-    let p = c.args.page.now in
-    let w = c.args.work.now in
-    let r = c.args.res.now in
-    let u = sym c.is_utf8.ensures ∙ c.if-not-is_utf8.false in
-    let n = c.cut_len-n.result in
-    let e = c.cut_len-n.ensures in
-    let t = c.convert-t in
-    let none = no t.result _ (not-true t.result.ok c.if-not-t.true) ∙ t.ensures.out_after in
-    promised _ _ TooManyLists r _ w _ (call_4 p u n e (length w) (length r) c.if-work-n.false c.if-res.false none) refl refl refl refl
-
-pub finish-k-requires : goal.finish-k-requires
-finish-k-requires c =
-    (c.convert-t.ensures.len_in_bounds (not-false c.convert-t.result.ok c.if-not-t.false), c.if-res.false)
+pub returns-in_err-c : goal.returns-in_err-c
+returns-in_err-c c =
+    let k = cut (goal.at.returns-in_err-c c).After-cut_len-n in
+    let q = err_from_is_err_and c.from_residual.result c.from_residual.ensures.1 in
+    rw (q.1, q.2) (promised _ _ (Err TooManyLists) _ _ _ _ (call_4 _ _ k _ _ c.if-work-n.false c.if-res.false c.in_err-c.ensures.out_after) refl refl refl refl)
 
 pub returns : goal.returns
 returns c =
-    let p = c.args.page.now in
-    let w = c.args.work.now in
-    let r = c.args.res.now in
-    let u = sym c.is_utf8.ensures ∙ c.if-not-is_utf8.false in
-    let n = c.cut_len-n.result in
-    let e = c.cut_len-n.ensures in
-    let t = c.convert-t in
-    let k = not-false t.result.ok c.if-not-t.false in
-    let call = call_wrote p u n e (length w) (length r) c.if-work-n.false c.if-res.false in
-    let f = c.finish-k in
-    let made = call t.result.state _ (yes t.result _ k ∙ t.ensures.out_after) (t.ensures.len_in_bounds k) in
-    promised _ _ (Length f.result) r _ w _ made refl f.ensures.0 f.ensures.1 refl
+    let k = cut (goal.at.returns c).After-cut_len-n in
+    let t = c.in_ok-c in
+    let f = c.finish in
+    let made = call_wrote _ _ k _ _ c.if-work-n.false c.if-res.false t.c _ t.ensures.out_after t.ensures.len_in_bounds in
+    promised _ _ (Ok f.result) _ _ _ _ made refl f.ensures.0 f.ensures.1 refl

@@ -24,7 +24,7 @@ loop-i-smaller-then-markdown-i c = omega (arith, c.loop-i-test.true)
 pub loop-i-preserved-then-markdown-i : goal.loop-i-preserved-then-markdown-i
 loop-i-preserved-then-markdown-i c =
     let l = c.loop-i in
-    let e = and_true (eqb (get_or c.args.markdown.now l.i 0) 10) (eqb l.s.from l.s.to) c.if-markdown-i.true in
+    let e = and_true _ _ (rw c.is_empty.ensures at c.if-markdown-i.true) in
     reading_blank _ _ _ _ _ _ _ l.invariant c.loop-i-test.true (eqb-true _ _ e.0) (eqb-true _ _ e.1)
 
 pub next_line-line-requires : goal.next_line-line-requires

@@ -1,4 +1,4 @@
--- `sections::heading_at` meets its contract: each turn leaves the same answer to find, from the next offset on.
+-- `sections::heading_at`: each turn leaves the same answer to find, from the next offset on.
 -- Assumes nothing.
 use Prim.Native.Nat.{◌-◌}
 use mathlib.Core.Path.{◌≡◌}
@@ -7,8 +7,8 @@ use Rattle.sections.specs.Calls.{section_answer}
 use Rattle.sections.specs.Readers.{answer_from}
 use Rattle.sections.proofs.heading_at.Given as goal
 
-abbrev pub invariant-loop-level : goal.invariant-loop-level
-invariant-loop-level l = answer_from l.records l.title l.at ≡ section_answer l.records l.title
+abbrev pub invariant-loop-block : goal.invariant-loop-block
+invariant-loop-block l = answer_from l.records l.title l.at ≡ section_answer l.records l.title
 
-abbrev pub decreases-loop-level : goal.decreases-loop-level
-decreases-loop-level l = length l.records - l.at
+abbrev pub decreases-loop-block : goal.decreases-loop-block
+decreases-loop-block l = length l.records - l.at

@@ -1,54 +1,32 @@
 -- `sheet::closed_by` meets its contract.
 -- Assumes nothing.
-use native.Mathlib.Omega.{arith}
-use Rattle.sheet.specs.Says.{from}
-use Rattle.sheet.specs.Reader.{line, closed_by}
+use Rattle.text.specs.Utf8.{chars}
+use Rattle.sheet.specs.Reader.{line}
 use Rattle.sheet.specs.Written.{written_runs}
+use Rattle.sheet.specs.Says.{Weighs}
 use Rattle.sheet.specs.Forms.{led}
-use Rattle.sheet.proofs.TestTags.{Stands, stands, missing}
-use Rattle.sheet.proofs.TestSays.{Got, says_no, says_at, answers, refuses}
+use Rattle.sheet.proofs.TestSays.{Got, says_no, got, answers, refuses}
 use Rattle.sheet.proofs.TestBlocks.{closed_1, closed_2, closed_3, led_count}
 use Rattle.sheet.proofs.closed_by.Goals as goal
-use Rattle.sheet.proofs.closed_by.Goals.{Else-not-starts_with, In-At}
+use Rattle.sheet.proofs.closed_by.Goals.{In_ok-line}
 
 -- the line was read
-has_line : (c : In-At)
-    → let a = c.args in
-    Got written_runs a.page.now a.at (line (from a.page.now a.at)) c.in-At.next c.in-At.count
-has_line c =
-    let a = c.args in
-    says_at written_runs a.page.now a.at (line (from a.page.now a.at)) c.line.ensures c.in-At.is
+has_line : (c : In_ok-line) → Got (Weighs written_runs) (line (chars c.args.page.now)) c.in_ok-line.line
+has_line c = got (Weighs written_runs) (line (chars c.args.page.now)) c.in_ok-line.ensures
 
--- the tag stands after it
-closed : (c : Else-not-starts_with) → let a = c.args in Stands a.tag.now a.page.now c.in-At.next
-closed c =
-    let a = c.args in
-    stands a.tag.now a.page.now c.in-At.next c.requires c.starts_with.ensures
-    c.if-not-starts_with.false
+pub returns-in_err-line : goal.returns-in_err-line
+returns-in_err-line c =
+    let s = chars c.args.page.now in
+    refuses (Weighs (led c.args.lead)) (closed_1 c.args.tag.now s (says_no (Weighs written_runs) (line s) c.in_err-line.ensures)) c.from_residual.ensures
 
-pub returns-in_default : goal.returns-in_default
-returns-in_default c =
+pub returns-in_err-rest : goal.returns-in_err-rest
+returns-in_err-rest c =
     let a = c.args in
-    refuses (led a.lead) a.page.now a.at (closed_by a.tag.now (from a.page.now a.at))
-    (closed_1 a.tag.now (from a.page.now a.at)
-    (says_no written_runs a.page.now a.at (line (from a.page.now a.at)) c.line.ensures c.in_default.is))
-
-pub returns-then-not-starts_with : goal.returns-then-not-starts_with
-returns-then-not-starts_with c =
-    let a = c.args in
-    let w = has_line (goal.at.returns-then-not-starts_with c).In-At in
-    refuses (led a.lead) a.page.now a.at (closed_by a.tag.now (from a.page.now a.at))
-    (closed_2 a.tag.now (from a.page.now a.at) w.what _ w.is
-    (missing a.tag.now a.page.now c.in-At.next c.requires c.starts_with.ensures c.if-not-starts_with.true))
-
-pub overflow_add-result : goal.overflow_add-result
-overflow_add-result c = omega (arith, (closed c).within (has_line (goal.at.overflow_add-result c).In-At).within)
+    let l = has_line (goal.at.returns-in_err-rest c).In_ok-line in
+    refuses (Weighs (led a.lead)) (closed_2 a.tag.now (chars a.page.now) l.what _ l.is c.in_err-rest.ensures) c.from_residual-in_err-rest.ensures
 
 pub returns : goal.returns
 returns c =
     let a = c.args in
-    let w = has_line (goal.at.returns c).In-At in
-    let g = closed (goal.at.returns c).Else-not-starts_with in
-    answers (led a.lead) a.page.now a.at (closed_by a.tag.now (from a.page.now a.at))
-    (closed_3 a.tag.now (from a.page.now a.at) w.what _ w.is g.off)
-    (led_count a.lead w.what c.ascii.ensures w.count c.add.ensures) (omega (arith, w.later)) (g.within w.within)
+    let l = has_line (goal.at.returns c).In_ok-line in
+    answers (Weighs (led a.lead)) _ (closed_3 a.tag.now (chars a.page.now) l.what _ l.is c.in_ok-rest.ensures) (led_count a.lead l.what c.ascii.ensures l.value c.add.ensures)

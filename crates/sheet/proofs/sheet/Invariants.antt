@@ -1,12 +1,12 @@
 -- `sheet::sheet` meets its contract: refusal 1, no, or yes with both counts, for every page.
 -- Assumes nothing.
-use Prim.Native.Nat.{◌-◌}
-use lib.ListN.{length}
+use Rattle.std.proofs.Common.{length}
+use Rattle.text.specs.Utf8.{chars}
 use Rattle.sheet.proofs.TestPage.{BlocksTo}
 use Rattle.sheet.proofs.sheet.Given as goal
 
-abbrev pub invariant-loop-next : goal.invariant-loop-next
-invariant-loop-next l = BlocksTo l.page l.initial.pos l.pos l.count
+abbrev pub invariant-loop-read : goal.invariant-loop-read
+invariant-loop-read l = BlocksTo (chars l.initial.rest) (chars l.rest) l.count
 
-abbrev pub decreases-loop-next : goal.decreases-loop-next
-decreases-loop-next l = length l.page - l.pos
+abbrev pub decreases-loop-read : goal.decreases-loop-read
+decreases-loop-read l = length (chars l.rest)

@@ -7,7 +7,7 @@ use Rattle.spans.proofs.Loop.{Walking}
 use Rattle.spans.proofs.+spans_in.Given as goal
 
 abbrev pub invariant-loop-w : goal.invariant-loop-w
-invariant-loop-w l = Walking l.bold l.italic l.line l.initial.out l.at l.w l.out × Known l.line l.seen
+invariant-loop-w l = Walking l.around.bold l.around.italic l.line l.initial.out l.at l.w l.out × Known l.line l.w.i l.seen
 
 abbrev pub decreases-loop-w : goal.decreases-loop-w
 decreases-loop-w l = length l.line - l.w.i

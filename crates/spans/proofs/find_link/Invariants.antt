@@ -1,4 +1,4 @@
--- `find_link`: two searches that start after what is known of the line, and a test between them. The outer loop (`all`) and the one for `(` (`one`) make one turn.
+-- `find_link`: two searches that start after what is known of the line, and a test between them. The outer loop (`link`) and the one for `(` (`paren`) make one turn.
 -- Assumes nothing.
 use Prim.Native.Nat.{◌-◌}
 use lib.ListN.{length}
@@ -6,7 +6,7 @@ use Rattle.spans.specs.State.{Clear, Known}
 use Rattle.spans.proofs.find_link.Given as goal
 
 abbrev pub invariant-close : goal.invariant-close
-invariant-close l = Clear 93 l.s l.from l.i × Known l.s l.seen
+invariant-close l = Clear 93 l.s l.from l.i × Known l.s l.from l.seen
 
 abbrev pub decreases-close : goal.decreases-close
 decreases-close l = length l.s - l.i
@@ -18,13 +18,13 @@ abbrev pub decreases-paren : goal.decreases-paren
 decreases-paren l = 0
 
 abbrev pub invariant-end : goal.invariant-end
-invariant-end l = Clear 41 l.s l.target l.j × Known l.s l.seen
+invariant-end l = Clear 41 l.s l.target l.j × Known l.s l.from l.seen
 
 abbrev pub decreases-end : goal.decreases-end
 decreases-end l = length l.s - l.j
 
 abbrev pub invariant-link : goal.invariant-link
-invariant-link l = Known l.s l.seen
+invariant-link l = Known l.s l.from l.seen
 
 abbrev pub decreases-link : goal.decreases-link
 decreases-link l = 0

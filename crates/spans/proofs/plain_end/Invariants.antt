@@ -1,12 +1,7 @@
 -- `plain_end` meets its contract: what was passed is text.
 -- Assumes nothing.
-use Prim.Native.Nat.{◌-◌}
-use lib.ListN.{length}
 use Rattle.spans.specs.State.{PlainTo}
 use Rattle.spans.proofs.plain_end.Given as goal
 
 abbrev pub invariant-loop-j : goal.invariant-loop-j
 invariant-loop-j l = PlainTo l.line l.i l.j
-
-abbrev pub decreases-loop-j : goal.decreases-loop-j
-decreases-loop-j l = length l.line - l.j

@@ -1,19 +1,14 @@
--- `spans`: the two tests of the guard, and the reader.
+-- `spans`: the test of the guard, and the reader.
 -- Assumes nothing.
-use Rattle.spans.proofs.LineLaws.{line_long, line_far, wrote_none, wrote_all}
+use Rattle.spans.proofs.LineLaws.{line_none, wrote_none, wrote_all}
 use Rattle.spans.proofs.spans.Goals as goal
 
-pub returns-then-line-gt1048576 : goal.returns-then-line-gt1048576
-returns-then-line-gt1048576 c =
+pub returns-then-line-at : goal.returns-then-line-at
+returns-then-line-at c =
     let a = c.args in
-    wrote_none a.line.now a.out.now a.at (line_long a.line.now a.at c.if-line-gt1048576.true)
-
-pub returns-then-at-gt1099511627776 : goal.returns-then-at-gt1099511627776
-returns-then-at-gt1099511627776 c =
-    let a = c.args in
-    wrote_none a.line.now a.out.now a.at (line_far a.line.now a.at c.if-at-gt1099511627776.true)
+    wrote_all a.line.now a.out.now a.at _ _ _ c.if-line-at.true (rw (c.default.ensures.0, c.default.ensures.1) at c.spans_in.ensures)
 
 pub returns : goal.returns
 returns c =
     let a = c.args in
-    wrote_all a.line.now a.out.now a.at _ _ _ c.if-line-gt1048576.false c.if-at-gt1099511627776.false c.spans_in.ensures
+    wrote_none a.line.now a.out.now a.at (line_none a.line.now a.at c.if-line-at.false)

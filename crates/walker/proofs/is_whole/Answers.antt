@@ -1,30 +1,19 @@
--- `walker::is_whole` meets its contract: what is left from the next block on is whole exactly if all is.
+-- `walker::is_whole`: what is left from the next block on is whole exactly if all is.
 -- Assumes nothing.
 use mathlib.Core.Path.{sym, ap, ◌∙◌}
 use Rattle.walker.specs.Decoded.{is_whole}
-use Rattle.walker.proofs.Decoded.{stands_here, turn_less, whole_next}
+use Rattle.walker.proofs.Decoded.{stands_here, ends_here, broken_here, turn_less, whole_next}
 use Rattle.walker.proofs.is_whole.Goals as goal
 
-pub loop-next-smaller-in-Heading : goal.loop-next-smaller-in-Heading
-loop-next-smaller-in-Heading c = turn_less _ _ (stands_here _ _ c.type_inv.records c.in-Heading.is c.block_at.ensures)
+pub loop-block-smaller : goal.loop-block-smaller
+loop-block-smaller c = turn_less _ _ (stands_here _ _ c.type_inv.records c.in-Ok-Some.field-0-is c.in-Ok-Some.ensures)
 
-pub loop-next-preserved-in-Heading : goal.loop-next-preserved-in-Heading
-loop-next-preserved-in-Heading c = whole_next _ _ (stands_here _ _ c.type_inv.records c.in-Heading.is c.block_at.ensures) ∙ c.loop-next.invariant
+pub loop-block-preserved : goal.loop-block-preserved
+loop-block-preserved c =
+    whole_next _ _ (stands_here _ _ c.type_inv.records c.in-Ok-Some.field-0-is c.in-Ok-Some.ensures) ∙ c.loop-block.invariant
 
-pub loop-next-smaller-in-Paragraph : goal.loop-next-smaller-in-Paragraph
-loop-next-smaller-in-Paragraph c = turn_less _ _ (stands_here _ _ c.type_inv.records c.in-Paragraph.is c.block_at.ensures)
+pub returns-in-Ok-None : goal.returns-in-Ok-None
+returns-in-Ok-None c = sym (ap is_whole (ends_here _ _ c.in-Ok-None.field-0-is c.in-Ok-None.ensures)) ∙ c.loop-block.invariant
 
-pub loop-next-preserved-in-Paragraph : goal.loop-next-preserved-in-Paragraph
-loop-next-preserved-in-Paragraph c = whole_next _ _ (stands_here _ _ c.type_inv.records c.in-Paragraph.is c.block_at.ensures) ∙ c.loop-next.invariant
-
-pub loop-next-smaller : goal.loop-next-smaller
-loop-next-smaller c = turn_less _ _ (stands_here _ _ c.type_inv.records c.in-Item.is c.block_at.ensures)
-
-pub loop-next-preserved : goal.loop-next-preserved
-loop-next-preserved c = whole_next _ _ (stands_here _ _ c.type_inv.records c.in-Item.is c.block_at.ensures) ∙ c.loop-next.invariant
-
-pub returns-in-End : goal.returns-in-End
-returns-in-End c = sym (ap is_whole (stands_here _ _ c.type_inv.records c.in-End.is c.block_at.ensures)) ∙ c.loop-next.invariant
-
-pub returns-in-Bad : goal.returns-in-Bad
-returns-in-Bad c = sym (ap is_whole (stands_here _ _ c.type_inv.records c.in-Bad.is c.block_at.ensures)) ∙ c.loop-next.invariant
+pub returns-in-Err : goal.returns-in-Err
+returns-in-Err c = sym (ap is_whole (broken_here _ _ c.in-Err.ensures)) ∙ c.loop-block.invariant

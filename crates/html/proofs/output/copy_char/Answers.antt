@@ -24,9 +24,6 @@ bounds-raw-i-2 c = omega (arith, first (goal.at.bounds-raw-i-2 c).Start)
 pub bounds-out-n-2 : goal.bounds-out-n-2
 bounds-out-n-2 c = simp length-set (omega (arith, first (goal.at.bounds-out-n-2 c).Start))
 
-pub overflow_add-result : goal.overflow_add-result
-overflow_add-result c = omega (arith, first (goal.at.overflow_add-result c).Start)
-
 pub returns-then-a-lt224 : goal.returns-then-a-lt224
 returns-then-a-lt224 c = let p = c.requires.1 in copied_2 c.args.raw.now c.args.i p.0 p.1.0 p.1.1 c.args.n c.args.out.now c.requires.0 c.if-a-lt224.true
 
@@ -36,9 +33,6 @@ bounds-raw-i-3 c = omega (arith, second (goal.at.bounds-raw-i-3 c).Else-a-lt224)
 pub bounds-out-n-3 : goal.bounds-out-n-3
 bounds-out-n-3 c = simp length-set (omega (arith, second (goal.at.bounds-out-n-3 c).Else-a-lt224))
 
-pub overflow_add-result-then-a-lt240 : goal.overflow_add-result-then-a-lt240
-overflow_add-result-then-a-lt240 c = omega (arith, second (goal.at.overflow_add-result-then-a-lt240 c).Else-a-lt224)
-
 pub returns-then-a-lt240 : goal.returns-then-a-lt240
 returns-then-a-lt240 c = let p = c.requires.1 in copied_3 c.args.raw.now c.args.i p.0 p.1.0 p.1.1 c.args.n c.args.out.now c.requires.0 c.if-a-lt224.false c.if-a-lt240.true
 
@@ -47,9 +41,6 @@ bounds-raw-i-4 c = omega (arith, third (goal.at.bounds-raw-i-4 c).Else-a-lt240)
 
 pub bounds-out-n-4 : goal.bounds-out-n-4
 bounds-out-n-4 c = simp length-set (omega (arith, third (goal.at.bounds-out-n-4 c).Else-a-lt240))
-
-pub overflow_add-result-2 : goal.overflow_add-result-2
-overflow_add-result-2 c = omega (arith, third (goal.at.overflow_add-result-2 c).Else-a-lt240)
 
 pub returns : goal.returns
 returns c = let p = c.requires.1 in copied_4 c.args.raw.now c.args.i p.0 p.1.0 p.1.1 c.args.n c.args.out.now c.requires.0 c.if-a-lt240.false

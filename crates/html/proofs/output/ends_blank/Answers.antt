@@ -1,19 +1,10 @@
 -- `ends_blank` meets its contract.
 -- Assumes nothing.
-use mathlib.Core.Path.{sym}
-use native.Mathlib.Omega.{arith}
-use Rattle.html.proofs.OutLaws.{blank_few, blank_other, blank_two}
+use Rattle.html.proofs.OutLaws.{blank_none, blank_last}
 use Rattle.html.proofs.output.ends_blank.Goals as goal
 
-pub returns-then-n-lt2 : goal.returns-then-n-lt2
-returns-then-n-lt2 c = let a = c.args in sym (blank_few a.n a.out.now c.if-n-lt2.true)
+pub returns-in_default : goal.returns-in_default
+returns-in_default c = blank_none c.args.written.now c.in_default.len_below
 
-pub returns-then-out-n-ne10 : goal.returns-then-out-n-ne10
-returns-then-out-n-ne10 c =
-    let a = c.args in
-    sym (blank_other a.n a.out.now (omega arith) c.if-out-n-ne10.true)
-
-pub returns : goal.returns
-returns c =
-    let a = c.args in
-    blank_two a.n a.out.now (omega arith) c.if-out-n-ne10.false
+pub returns-in-len2-up : goal.returns-in-len2-up
+returns-in-len2-up c = blank_last c.args.written.now c.in-len2-up.len_at_least

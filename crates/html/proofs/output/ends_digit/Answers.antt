@@ -1,11 +1,11 @@
 -- `ends_digit` meets its contract.
 -- Assumes nothing.
-use native.Mathlib.Omega.{arith}
-use Rattle.html.proofs.OutLaws.{digit_last, digit_none}
+use mathlib.Core.Path.{◌∙◌}
+use Rattle.html.proofs.OutLaws.{digit_none, digit_last}
 use Rattle.html.proofs.output.ends_digit.Goals as goal
 
-pub returns-then-n-eq0 : goal.returns-then-n-eq0
-returns-then-n-eq0 c = let a = c.args in digit_none a.n a.out.now c.if-n-eq0.true
+pub returns-in-empty : goal.returns-in-empty
+returns-in-empty c = digit_none c.args.written.now c.in-empty.len_below
 
-pub returns : goal.returns
-returns c = let a = c.args in digit_last a.n a.out.now (omega arith)
+pub returns-in-len1-up : goal.returns-in-len1-up
+returns-in-len1-up c = c.is_ascii_digit.ensures.value ∙ digit_last c.args.written.now c.in-len1-up.len_at_least

@@ -1,38 +1,41 @@
 -- `line_ended` meets its contract.
 -- Assumes nothing.
-use mathlib.Core.Path.{sym, ap, ◌∙◌}
+use mathlib.Core.Path.{◌≡◌, sym, ap, ◌∙◌}
 use native.Mathlib.Omega.{arith}
-use Prim.Native.Nat.{ℕ}
+use Prim.Native.Nat.{ℕ, ◌≤◌}
 use mathlib.Core.List.{List}
 use mathlib.Core.Bool.{false}
-use Rattle.html.specs.State.{with_out}
-use Rattle.html.proofs.GrowLaws.{unspaced_most}
+use Rattle.html.specs.State.{with_out, line_start}
+use lib.ListN.{take, length-take}
+use Rattle.text.specs.Words.{drop_while, is}
+use Rattle.html.specs.Struct.{out_of, last_first}
+use Rattle.html.proofs.OutLaws.{front_is, unspaced_out}
 use Rattle.html.proofs.StepLaws.{cleared, newline_start, newline_feed}
 use Rattle.html.proofs.output.line_ended.Goals as goal
+use Rattle.html.proofs.output.line_ended.Goals.{After-unspaced-n}
 
-pub line_start-requires : goal.line_start-requires
-line_start-requires c =
-    let u = unspaced_most c.args.len c.unspaced-n.result c.args.out.now c.unspaced-n.ensures in
-    omega arith
+most : (c : After-unspaced-n) → c.unspaced-n.result ≤ c.args.len
+most c = omega (arith, c.unspaced-n.ensures.bound, length-take c.args.len c.args.out.now)
+
+cut : (c : After-unspaced-n) → out_of c.unspaced-n.result c.args.out.now ≡ drop_while (is " ") (out_of c.args.len c.args.out.now)
+cut c = unspaced_out c.unspaced-n.result c.args.len c.args.out.now (omega arith) (most c) c.unspaced-n.ensures.bytes
+
+before : (c : After-unspaced-n) → last_first (take c.unspaced-n.result c.args.out.now) ≡ out_of c.unspaced-n.result c.args.out.now
+before c = front_is c.unspaced-n.result c.args.out.now (omega (arith, most c))
 
 pub returns-then-line_start : goal.returns-then-line_start
 returns-then-line_start c =
     let w = c.args.out.now in
     let n = c.unspaced-n.result in
     λ s.
-    let e = cleared n c.args.len w s c.unspaced-n.ensures in
-    newline_start _ _ e (sym c.line_start.ensures ∙ c.if-line_start.true)
-
-pub push-requires : goal.push-requires
-push-requires c =
-    let u = unspaced_most c.args.len c.unspaced-n.result c.args.out.now c.unspaced-n.ensures in
-    (omega arith, omega arith)
+    let e = cleared n c.args.len w s (cut (goal.at.returns-then-line_start c).After-unspaced-n) in
+    newline_start _ _ e (ap line_start (sym (before (goal.at.returns-then-line_start c).After-unspaced-n)) ∙ sym c.line_start.ensures ∙ c.if-line_start.true)
 
 pub returns : goal.returns
 returns c =
     let w = c.args.out.now in
     let n = c.unspaced-n.result in
     λ s.
-    let e = cleared n c.args.len w s c.unspaced-n.ensures in
+    let e = cleared n c.args.len w s (cut (goal.at.returns c).After-unspaced-n) in
     ap (λ (o : List ℕ). with_out o false s) c.push.ensures
-    ∙ newline_feed _ _ e (sym c.line_start.ensures ∙ c.if-line_start.false)
+    ∙ newline_feed _ _ e (ap line_start (sym (before (goal.at.returns c).After-unspaced-n)) ∙ sym c.line_start.ensures ∙ c.if-line_start.false)

@@ -1,11 +1,10 @@
 -- `line_start` meets its contract.
 -- Assumes nothing.
-use native.Mathlib.Omega.{arith}
-use Rattle.html.proofs.OutLaws.{start_last, start_none}
+use Rattle.html.proofs.OutLaws.{start_none, start_last}
 use Rattle.html.proofs.output.line_start.Goals as goal
 
-pub returns-then-n-eq0 : goal.returns-then-n-eq0
-returns-then-n-eq0 c = let a = c.args in start_none a.n a.out.now c.if-n-eq0.true
+pub returns-in-empty : goal.returns-in-empty
+returns-in-empty c = start_none c.args.written.now c.in-empty.len_below
 
-pub returns : goal.returns
-returns c = let a = c.args in start_last a.n a.out.now (omega arith)
+pub returns-in-len1-up : goal.returns-in-len1-up
+returns-in-len1-up c = start_last c.args.written.now c.in-len1-up.len_at_least

@@ -1,18 +1,19 @@
--- `push_times` meets its contract: what is left of the bytes gives the same output.
+-- `push_times` meets its contract.
 -- Assumes nothing.
-use mathlib.Core.Path.{◌≡◌}
+use mathlib.Core.Path.{◌≡◌, sym, ap, ◌∙◌}
 use native.Mathlib.Omega.{arith}
-use Rattle.html.proofs.OutLaws.{times_more}
-use lib.ListN.{length-set}
+use Prim.Native.Nat.{ℕ, ◌+◌, ◌-◌}
+use lib.ListN.{drop, replicate, length-replicate, length-take, length-drop}
+use borrow.Author.Rules.{rules}
+use Rattle.html.proofs.OutLaws.{out_all}
+use Rattle.html.proofs.GrowLaws.{ascii_times}
 use Rattle.html.proofs.output.push_times.Goals as goal
-
-pub loop-left-preserved : goal.loop-left-preserved
-loop-left-preserved c =
-    let l = c.loop-left in
-    (omega arith, simp length-set l.invariant.1, times_more l.out l.at c.args.byte l.left c.requires.1 (omega arith) (omega arith) l.invariant.2)
 
 pub returns : goal.returns
 returns c =
-    let l = c.loop-left in
-    let z : l.left ≡ 0 = omega arith in
-    rw z at l.invariant.2
+    let a = c.args in
+    let bytes = replicate a.times a.byte in
+    let filled : c.fill.new.self ≡ bytes =
+    c.fill.ensures.after (search rules)
+    ∙ ap (λ (k : ℕ). replicate k a.byte) (omega (arith, length-take (a.n + a.times - a.n) (drop a.n a.out.now), length-drop a.n a.out.now, c.requires.0)) in
+    rw filled (out_all a.n a.times bytes a.out.now (ascii_times a.times a.byte c.requires.1) (rw length-replicate c.requires.0) (sym (length-replicate a.times a.byte)))

@@ -7,6 +7,3 @@ use Rattle.html.proofs.output.spaced.Goals as goal
 pub returns-then-space : goal.returns-then-space
 returns-then-space c =
     rw c.if-space.true (out_push c.args.n c.args.out.now 32 c.requires (omega arith))
-
-pub returns : goal.returns
-returns c = rw c.if-space.false

@@ -1,30 +1,31 @@
 -- `unspaced` meets its contract. The spaces passed are those that go.
 -- Assumes nothing.
-use mathlib.Core.Path.{sym, ap, ◌∙◌}
+use mathlib.Core.Path.{◌≡◌, sym, ap, ◌∙◌}
+use Prim.Native.Nat.{◌-◌}
+use lib.ListN.{length, get_or}
+use lib.Seq.{length-take-le}
 use native.Mathlib.Omega.{arith}
-use Rattle.html.proofs.OutLaws.{spaces_more, spaces_stop, out_none}
-use Rattle.text.specs.Words.{drop_while, is}
+use borrow.Author.Rules.{rules}
+use Rattle.html.specs.Struct.{last_first}
+use Rattle.html.proofs.OutLaws.{shorter, spaces_on, spaces_off, spaces_none}
 use Rattle.html.proofs.output.unspaced.Goals as goal
 
-pub loop-n-preserved : goal.loop-n-preserved
-loop-n-preserved c =
-    let l = c.loop-n in
-    let a = c.args in
-    (omega arith, sym (spaces_more a.out.now l.n (omega arith) c.if-out-n-ne32.false) ∙ l.invariant.1)
+pub loop-rest-preserved : goal.loop-rest-preserved
+loop-rest-preserved c =
+    let r = c.loop-rest.rest.now in
+    let e : get_or r (length r - 1) 0 ≡ 32 = search rules in
+    let v = c.loop-rest.invariant in
+    let k = length-take-le (length r - 1) r (omega arith) in
+    (omega arith, shorter c.args.written.now r v.1, spaces_on r _ c.in-32.len_at_least e v.2)
 
-pub returns-after-loop-n : goal.returns-after-loop-n
-unfolding drop_while
-returns-after-loop-n c =
-    let l = c.loop-n in
-    let a = c.args in
-    let z = out_none l.n a.out.now (omega arith) in
-    z
-    ∙ sym (ap (drop_while (is " ")) z)
-    ∙ l.invariant.1
+pub returns-in_default-clause-bytes : goal.returns-in_default-clause-bytes
+returns-in_default-clause-bytes c =
+    let v = c.loop-rest.invariant in
+    ap last_first (sym v.1) ∙ spaces_none c.loop-rest.rest.now _ c.in_default.len_below v.2
 
-pub returns-then-out-n-ne32 : goal.returns-then-out-n-ne32
-returns-then-out-n-ne32 c =
-    let l = c.loop-n in
-    let a = c.args in
-    sym (spaces_stop a.out.now l.n (omega arith) c.if-out-n-ne32.true)
-    ∙ l.invariant.1
+pub returns-in_default-2-clause-bytes : goal.returns-in_default-2-clause-bytes
+returns-in_default-2-clause-bytes c =
+    let v = c.loop-rest.invariant in
+    let r = c.loop-rest.rest.now in
+    let n : get_or r (length r - 1) 0 ≡ 32 → ⊥ = search rules in
+    ap last_first (sym v.1) ∙ spaces_off r _ c.in_default.len_at_least n v.2

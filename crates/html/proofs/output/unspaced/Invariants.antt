@@ -1,13 +1,15 @@
 -- The loop of `unspaced`: the spaces passed are those that go.
 -- Assumes nothing.
 use mathlib.Core.Path.{◌≡◌}
-use Rattle.html.specs.Struct.{out_of}
 use Prim.Native.Nat.{◌≤◌}
+use lib.ListN.{length, take}
 use Rattle.text.specs.Words.{drop_while, is}
+use Rattle.html.specs.Struct.{last_first}
 use Rattle.html.proofs.output.unspaced.Given as goal
 
-abbrev pub invariant-loop-n : goal.invariant-loop-n
-invariant-loop-n l = (l.n ≤ l.len) × (drop_while (is " ") (out_of l.n l.out) ≡ drop_while (is " ") (out_of l.len l.out))
+abbrev pub invariant-loop-rest : goal.invariant-loop-rest
+invariant-loop-rest l =
+    (length l.rest ≤ length l.written) × (l.rest ≡ take (length l.rest) l.written) × (drop_while (is " ") (last_first l.rest) ≡ drop_while (is " ") (last_first l.written))
 
-abbrev pub decreases-loop-n : goal.decreases-loop-n
-decreases-loop-n l = l.n
+abbrev pub decreases-loop-rest : goal.decreases-loop-rest
+decreases-loop-rest l = length l.rest

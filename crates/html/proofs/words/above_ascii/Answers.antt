@@ -14,14 +14,8 @@ second c = let p = c.requires in tail_2 c.args.raw.now c.args.i p.0 p.1.0 p.1.1 
 third : (c : Else-a-lt240) → Tail c.args.raw.now c.args.i 3
 third c = let p = c.requires in tail_3 c.args.raw.now c.args.i p.0 p.1.0 p.1.1 c.if-a-lt240.false
 
-pub overflow_cast-a : goal.overflow_cast-a
-overflow_cast-a c = omega (arith, first (goal.at.overflow_cast-a c).Start)
-
 pub bounds-raw-i-2 : goal.bounds-raw-i-2
 bounds-raw-i-2 c = omega (arith, first (goal.at.bounds-raw-i-2 c).Start)
-
-pub overflow_cast-b : goal.overflow_cast-b
-overflow_cast-b c = omega (arith, first (goal.at.overflow_cast-b c).Start)
 
 pub overflow_sub-b : goal.overflow_sub-b
 overflow_sub-b c = omega (arith, first (goal.at.overflow_sub-b c).Start)
@@ -29,35 +23,14 @@ overflow_sub-b c = omega (arith, first (goal.at.overflow_sub-b c).Start)
 pub overflow_sub-result : goal.overflow_sub-result
 overflow_sub-result c = omega (arith, first (goal.at.overflow_sub-result c).Start)
 
-pub overflow_mul-result : goal.overflow_mul-result
-overflow_mul-result c = omega (arith, first (goal.at.overflow_mul-result c).Start)
-
-pub overflow_add-result : goal.overflow_add-result
-overflow_add-result c = omega (arith, first (goal.at.overflow_add-result c).Start)
-
 pub returns-then-a-lt224 : goal.returns-then-a-lt224
 returns-then-a-lt224 c = let p = c.requires in above_2 c.args.raw.now c.args.i p.0 p.1.0 p.1.1 c.if-a-lt224.true
 
 pub bounds-raw-i-3 : goal.bounds-raw-i-3
 bounds-raw-i-3 c = omega (arith, first (goal.at.bounds-raw-i-3 c).Start, second (goal.at.bounds-raw-i-3 c).Else-a-lt224)
 
-pub overflow_cast-c : goal.overflow_cast-c
-overflow_cast-c c = omega (arith, first (goal.at.overflow_cast-c c).Start, second (goal.at.overflow_cast-c c).Else-a-lt224)
-
 pub overflow_sub-c : goal.overflow_sub-c
 overflow_sub-c c = omega (arith, first (goal.at.overflow_sub-c c).Start, second (goal.at.overflow_sub-c c).Else-a-lt224)
-
-pub overflow_mul-result-then-a-lt240 : goal.overflow_mul-result-then-a-lt240
-overflow_mul-result-then-a-lt240 c = omega (arith, first (goal.at.overflow_mul-result-then-a-lt240 c).Start, second (goal.at.overflow_mul-result-then-a-lt240 c).Else-a-lt224)
-
-pub overflow_add-result-then-a-lt240 : goal.overflow_add-result-then-a-lt240
-overflow_add-result-then-a-lt240 c = omega (arith, first (goal.at.overflow_add-result-then-a-lt240 c).Start, second (goal.at.overflow_add-result-then-a-lt240 c).Else-a-lt224)
-
-pub overflow_mul-result-then-a-lt240-2 : goal.overflow_mul-result-then-a-lt240-2
-overflow_mul-result-then-a-lt240-2 c = omega (arith, first (goal.at.overflow_mul-result-then-a-lt240-2 c).Start, second (goal.at.overflow_mul-result-then-a-lt240-2 c).Else-a-lt224)
-
-pub overflow_add-result-then-a-lt240-2 : goal.overflow_add-result-then-a-lt240-2
-overflow_add-result-then-a-lt240-2 c = omega (arith, first (goal.at.overflow_add-result-then-a-lt240-2 c).Start, second (goal.at.overflow_add-result-then-a-lt240-2 c).Else-a-lt224)
 
 pub returns-then-a-lt240 : goal.returns-then-a-lt240
 returns-then-a-lt240 c = let p = c.requires in above_3 c.args.raw.now c.args.i p.0 p.1.0 p.1.1 c.if-a-lt224.false c.if-a-lt240.true
@@ -65,29 +38,8 @@ returns-then-a-lt240 c = let p = c.requires in above_3 c.args.raw.now c.args.i p
 pub bounds-raw-i-4 : goal.bounds-raw-i-4
 bounds-raw-i-4 c = omega (arith, first (goal.at.bounds-raw-i-4 c).Start, second (goal.at.bounds-raw-i-4 c).Else-a-lt224, third (goal.at.bounds-raw-i-4 c).Else-a-lt240)
 
-pub overflow_cast-d : goal.overflow_cast-d
-overflow_cast-d c = omega (arith, first (goal.at.overflow_cast-d c).Start, second (goal.at.overflow_cast-d c).Else-a-lt224, third (goal.at.overflow_cast-d c).Else-a-lt240)
-
 pub overflow_sub-d : goal.overflow_sub-d
 overflow_sub-d c = omega (arith, first (goal.at.overflow_sub-d c).Start, second (goal.at.overflow_sub-d c).Else-a-lt224, third (goal.at.overflow_sub-d c).Else-a-lt240)
-
-pub overflow_mul-result-2 : goal.overflow_mul-result-2
-overflow_mul-result-2 c = omega (arith, first (goal.at.overflow_mul-result-2 c).Start, second (goal.at.overflow_mul-result-2 c).Else-a-lt224, third (goal.at.overflow_mul-result-2 c).Else-a-lt240)
-
-pub overflow_add-result-2 : goal.overflow_add-result-2
-overflow_add-result-2 c = omega (arith, first (goal.at.overflow_add-result-2 c).Start, second (goal.at.overflow_add-result-2 c).Else-a-lt224, third (goal.at.overflow_add-result-2 c).Else-a-lt240)
-
-pub overflow_mul-result-3 : goal.overflow_mul-result-3
-overflow_mul-result-3 c = omega (arith, first (goal.at.overflow_mul-result-3 c).Start, second (goal.at.overflow_mul-result-3 c).Else-a-lt224, third (goal.at.overflow_mul-result-3 c).Else-a-lt240)
-
-pub overflow_add-result-3 : goal.overflow_add-result-3
-overflow_add-result-3 c = omega (arith, first (goal.at.overflow_add-result-3 c).Start, second (goal.at.overflow_add-result-3 c).Else-a-lt224, third (goal.at.overflow_add-result-3 c).Else-a-lt240)
-
-pub overflow_mul-result-4 : goal.overflow_mul-result-4
-overflow_mul-result-4 c = omega (arith, first (goal.at.overflow_mul-result-4 c).Start, second (goal.at.overflow_mul-result-4 c).Else-a-lt224, third (goal.at.overflow_mul-result-4 c).Else-a-lt240)
-
-pub overflow_add-result-4 : goal.overflow_add-result-4
-overflow_add-result-4 c = omega (arith, first (goal.at.overflow_add-result-4 c).Start, second (goal.at.overflow_add-result-4 c).Else-a-lt224, third (goal.at.overflow_add-result-4 c).Else-a-lt240)
 
 pub returns : goal.returns
 returns c = let p = c.requires in above_4 c.args.raw.now c.args.i p.0 p.1.0 p.1.1 c.if-a-lt240.false

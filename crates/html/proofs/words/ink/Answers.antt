@@ -13,7 +13,7 @@ use Rattle.html.specs.State.{State, new, with_pre, put, spaced, blank, put_all}
 use Rattle.html.specs.Pen.{pen_state, Unescaped, Inking}
 use Rattle.html.specs.declared.words.Pen.{Pen}
 use Rattle.html.specs.declared.words.Piece.{Piece}
-use Rattle.html.proofs.TextLaws.{pending_most, ink_room, ink_pause, ink_blanks, blank_out, ink_write, ink_done, behind_put}
+use Rattle.html.proofs.TextLaws.{ink_room, ink_pause, ink_blanks, blank_out, ink_write, ink_done, behind_put}
 use borrow.Author.Rules.{rules}
 use Rattle.html.proofs.words.ink.Goals as goal
 use Rattle.html.proofs.words.ink.Goals.{At-loop-i}
@@ -48,9 +48,6 @@ wrote : (c : Head) (u : Piece) → Unescaped (raw_of c) c.loop-i.i u → (r : Pe
 wrote c u v r o b e f s h =
     ink_write (raw_of c) s (made c s) (most c) c.loop-i.out c.loop-i.p c.loop-i.i (c.loop-i.invariant.0 s h) u v r o (ap (λ (t : Bool). blank t u.code) h ∙ b) (e s h) f
 
-pub loop-i-init : goal.loop-i-init
-loop-i-init c = (λ s h. record { same = refl; valid = c.requires.1; bound = omega arith; room = omega (arith, pending_most c.args.pen.space) }, refl)
-
 pub unescaped-u-requires : goal.unescaped-u-requires
 unescaped-u-requires c =
     let h = (goal.at.unescaped-u-requires c).At-loop-i in
@@ -60,9 +57,6 @@ pub pause-p-requires : goal.pause-p-requires
 pause-p-requires c =
     let h = (goal.at.pause-p-requires c).At-loop-i in
     omega (arith, roomy h c.unescaped-u.result c.unescaped-u.ensures)
-
-pub blanks_end-i-requires : goal.blanks_end-i-requires
-blanks_end-i-requires c = c.unescaped-u.ensures.bound
 
 pub loop-i-smaller-then-blank : goal.loop-i-smaller-then-blank
 loop-i-smaller-then-blank c =
@@ -89,9 +83,9 @@ write-w-requires c =
     let h = (goal.at.write-w-requires c).At-loop-i in
     (omega (arith, roomy h c.unescaped-u.result c.unescaped-u.ensures), c.unescaped-u.ensures.scalar)
 
-pub run-r-requires : goal.run-r-requires
-run-r-requires c =
-    let h = (goal.at.run-r-requires c).At-loop-i in
+pub run-written-requires : goal.run-written-requires
+run-written-requires c =
+    let h = (goal.at.run-written-requires c).At-loop-i in
     let u = c.unescaped-u.result in
     let v = c.unescaped-u.ensures in
     let b = sym c.blank.ensures ∙ c.if-blank.false in
@@ -105,7 +99,7 @@ run-r-requires c =
 pub loop-i-smaller : goal.loop-i-smaller
 loop-i-smaller c =
     let v = c.unescaped-u.ensures in
-    omega (arith, (utf8_size c.unescaped-u.result.code).0, v.size, v.bound, c.run-r.ensures.1, c.loop-i-test.true)
+    omega (arith, (utf8_size c.unescaped-u.result.code).0, v.size, v.bound, c.run-written.ensures.1, c.loop-i-test.true)
 
 pub loop-i-preserved : goal.loop-i-preserved
 loop-i-preserved c =
@@ -114,7 +108,7 @@ loop-i-preserved c =
     let v = c.unescaped-u.ensures in
     let b = sym c.blank.ensures ∙ c.if-blank.false in
     let e = c.write-w.ensures in
-    (λ s q. c.run-r.ensures.0 s (made h s) (most h) q (wrote h u v c.write-w.result _ b e.0 e.1 s q), search rules)
+    (λ s q. c.run-written.ensures.0 s (made h s) (most h) q (wrote h u v c.write-w.result _ b e.0 e.1 s q), search rules)
 
 pub returns : goal.returns
 returns c = λ s h. ink_done _ s _ _ _ c.loop-i.p c.loop-i.i (c.loop-i.invariant.0 s h) c.loop-i-test.false

@@ -80,12 +80,6 @@ Here c = Unescaped (raw_of c) c.loop-i.i (piece (at_of c) (c.loop-i.i + 1))
 ascii : (c : Head) → c.loop-i.i < length (raw_of c) → at_of c < 0x80 → (at_of c ≡ 38 → ⊥) → Here c
 ascii c l a n = piece_ascii (raw_of c) c.loop-i.i l (held c).valid a n
 
-pub loop-i-init : goal.loop-i-init
-loop-i-init c = (λ s t m h k. k, (c.requires.behind, (refl, omega arith)))
-
-pub bounds-raw-i : goal.bounds-raw-i
-bounds-raw-i c = c.loop-i-test.true
-
 pub bare-p-requires : goal.bare-p-requires
 bare-p-requires c =
     let h = (goal.at.bare-p-requires c).At-loop-i in
@@ -93,12 +87,6 @@ bare-p-requires c =
     let y = sym c.plain.ensures ∙ c.if-plain.true in
     let a = plain_ascii b (pre_of h) y in
     (omega (arith, roomy h _ (ascii h c.loop-i-test.true a (plain_not_and b (pre_of h) y)), (utf8_size b).0), a)
-
-pub overflow_add-i : goal.overflow_add-i
-overflow_add-i c = omega (arith, c.loop-i-test.true, c.well_formed)
-
-pub loop-i-smaller-then-plain : goal.loop-i-smaller-then-plain
-loop-i-smaller-then-plain c = omega (arith, c.loop-i-test.true)
 
 pub loop-i-preserved-then-plain : goal.loop-i-preserved-then-plain
 unfolding Now
@@ -150,9 +138,6 @@ loop-i-preserved-then-b-ge128 c =
     (λ s q. c.high-p.ensures.0 s ∙ ap (λ (x : ℕ). put c.loop-i.p.first x (spaced (pen_state s c.loop-i.p c.loop-i.out))) (sym v.1.0))
     c.high-p.ensures.1 (search rules)
 
-pub returns-then-b-eq38 : goal.returns-then-b-eq38
-returns-then-b-eq38 c = (c.loop-i.invariant.0, c.loop-i.invariant.1.1.1)
-
 pub bare-q-requires : goal.bare-q-requires
 bare-q-requires c =
     let h = (goal.at.bare-q-requires c).At-loop-i in
@@ -163,12 +148,6 @@ bare-p-requires-then-special c =
     let h = (goal.at.bare-p-requires-then-special c).At-loop-i in
     let k = bare_len (any h) c.loop-i.p c.bare-q.result c.loop-i.out _ (c.bare-q.ensures.0 (any h)) in
     (omega (arith, k, (held h).room, c.loop-i-test.true, c.loop-i.invariant.1.1.0, c.requires.from_in_bounds.1.1), c.if-b-ge128.false)
-
-pub overflow_add-i-then-special : goal.overflow_add-i-then-special
-overflow_add-i-then-special c = omega (arith, c.loop-i-test.true, c.well_formed)
-
-pub loop-i-smaller-then-special : goal.loop-i-smaller-then-special
-loop-i-smaller-then-special c = omega (arith, c.loop-i-test.true)
 
 pub loop-i-preserved-then-special : goal.loop-i-preserved-then-special
 unfolding Now
@@ -187,18 +166,9 @@ pause-p-requires-in-loop-i c =
     let h = (goal.at.pause-p-requires-in-loop-i c).At-loop-i in
     omega (arith, roomy h _ (ascii h c.loop-i-test.true c.if-b-ge128.false c.if-b-eq38.false))
 
-pub overflow_add-i-in-loop-i : goal.overflow_add-i-in-loop-i
-overflow_add-i-in-loop-i c = omega (arith, c.loop-i-test.true, c.well_formed)
-
-pub loop-i-smaller : goal.loop-i-smaller
-loop-i-smaller c = omega (arith, c.loop-i-test.true)
-
 pub loop-i-preserved : goal.loop-i-preserved
 unfolding Now
 loop-i-preserved c =
     let h = (goal.at.loop-i-preserved c).At-loop-i in
     let b = other_blank (at_of h) (pre_of h) (sym c.plain.ensures ∙ c.if-plain.false) c.if-b-ge128.false c.if-b-eq38.false (sym c.special.ensures ∙ c.if-special.false) in
     waits h _ (ascii h c.loop-i-test.true c.if-b-ge128.false c.if-b-eq38.false) c.pause-p-in-loop-i.result b c.pause-p-in-loop-i.ensures.0 c.pause-p-in-loop-i.ensures.1
-
-pub returns : goal.returns
-returns c = (c.loop-i.invariant.0, c.loop-i.invariant.1.1.1)

@@ -13,7 +13,7 @@ pub shape_of-work-then-b-eq10 : goal.shape_of-work-then-b-eq10
 shape_of-work-then-b-eq10 c = c.loop-j.invariant.size
 
 pub returns-then-b-eq10 : goal.returns-then-b-eq10
-returns-then-b-eq10 c = copied_break _ _ _ _ _ _ _ c.loop-j.invariant c.loop-j-test.true c.if-b-eq10.true
+returns-then-b-eq10 c = rw c.copied.ensures (copied_break _ _ _ _ _ _ _ c.loop-j.invariant c.loop-j-test.true c.if-b-eq10.true)
 
 pub loop-j-smaller-then-stands_at : goal.loop-j-smaller-then-stands_at
 loop-j-smaller-then-stands_at c =
@@ -42,4 +42,4 @@ pub shape_of-work : goal.shape_of-work
 shape_of-work c = c.loop-j.invariant.size
 
 pub returns : goal.returns
-returns c = copied_end _ _ _ _ _ _ _ c.loop-j.invariant c.loop-j-test.false
+returns c = rw c.copied-2.ensures (copied_end _ _ _ _ _ _ _ c.loop-j.invariant c.loop-j-test.false)

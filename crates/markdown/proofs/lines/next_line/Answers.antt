@@ -3,17 +3,19 @@
 use Rattle.markdown.proofs.Reading.{quiet_passed, passing_other, passed_break, passed_end, passed_comment}
 use lib.ListN.{length}
 use native.Mathlib.Omega.{arith}
-use mathlib.Core.Path.{refl, sym, ap, ◌∙◌}
+use Prim.Native.Nat.{ℕ, ◌+◌}
+use Rattle.markdown.specs.Parts.{lent, LineIs}
+use mathlib.Core.Path.{◌≡◌, refl, sym, ap, subst, ◌∙◌}
 use Rattle.markdown.proofs.lines.next_line.Goals as goal
 
 pub loop-j-init : goal.loop-j-init
-loop-j-init c = (quiet_passed _ _ _ c.requires.0 c.quiet_blocks-j.ensures, refl)
+loop-j-init c = (quiet_passed _ _ _ c.requires.0 (c.past_blocks-start.ensures.run c.requires.0), refl)
 
 pub shape_of-work-then-b-eq10 : goal.shape_of-work-then-b-eq10
 shape_of-work-then-b-eq10 c = ap length c.loop-j.invariant.1
 
 pub returns-then-b-eq10 : goal.returns-then-b-eq10
-returns-then-b-eq10 c = rw c.loop-j.invariant.1 (passed_break _ _ _ c.loop-j.invariant.0 _ c.loop-j-test.true c.if-b-eq10.true)
+returns-then-b-eq10 c = rw (c.loop-j.invariant.1, c.lent.ensures) (passed_break _ _ _ c.loop-j.invariant.0 _ c.loop-j-test.true c.if-b-eq10.true)
 
 pub slice_bounds-put_bytes-count : goal.slice_bounds-put_bytes-count
 slice_bounds-put_bytes-count c = c.loop-j.invariant.0.low
@@ -46,4 +48,9 @@ pub shape_of-work : goal.shape_of-work
 shape_of-work c = ap length c.loop-j.invariant.1
 
 pub returns : goal.returns
-returns c = rw c.loop-j.invariant.1 (passed_end _ _ _ c.loop-j.invariant.0 _ c.loop-j-test.false)
+returns c =
+    let a = c.args in
+    let v = c.loop-j.invariant in
+    let e : c.loop-j.j ≡ length a.markdown.now = omega (arith, v.0.bound, c.loop-j-test.false) in
+    rw c.lent-2.ensures (subst (λ (n : ℕ). LineIs a.markdown.now a.i a.work.now c.loop-j.work (record { text = lent a.i n; next = n + 1 })) e
+    (rw v.1 (passed_end _ _ _ v.0 _ c.loop-j-test.false)))

@@ -1,12 +1,18 @@
 -- `markdown::put_text` meets its contract.
 -- Assumes nothing.
+use native.Mathlib.Omega.{arith}
+use mathlib.Core.Path.{◌∙◌}
 use Rattle.markdown.specs.Parts.{text_of}
+use Rattle.markdown.proofs.PartLaws.{copied_part}
 use Rattle.markdown.proofs.lines.put_text.Goals as goal
 
-pub returns-then-copied : goal.returns-then-copied
+pub returns-then-text : goal.returns-then-text
 unfolding text_of
-returns-then-copied c = rw c.if-copied.true c.copy_part.ensures
+returns-then-text c =
+    let p₀ = c.args.text.part in
+    let p = c.requires in
+    rw c.if-text.true (c.copy_within.ensures.after ∙ copied_part c.args.work.now p₀.start p₀.end c.args.at p.0 (omega (arith, p.0, p.1.0, p.1.1.0, p.1.1.1)) p.1.1.1)
 
 pub returns : goal.returns
 unfolding text_of
-returns c = rw c.if-copied.false c.put_bytes.ensures
+returns c = rw c.if-text.false c.put_bytes.ensures

@@ -1,10 +1,15 @@
 -- `markdown::lines::stands_at` meets its contract.
 -- Assumes nothing.
+use borrow.Author.Tests.{eqb-false}
+use mathlib.Core.Path.{sym, ◌∙◌}
 use Rattle.markdown.proofs.RunLaws.{starts_past, starts_not}
 use Rattle.markdown.proofs.lines.stands_at.Goals as goal
+use Rattle.markdown.proofs.lines.stands_at.Goals.{then-j-s, else-j-s}
 
-pub returns-then-s-j : goal.returns-then-s-j
-returns-then-s-j c = starts_past c.args.mark.now c.args.s.now _ c.requires c.if-s-j.true
-
-pub returns-then-s-j-2 : goal.returns-then-s-j-2
-returns-then-s-j-2 c = starts_not c.args.mark.now c.args.s.now _ c.requires c.if-s-j.false c.if-s-j-2.true
+pub returns-else-s-j : goal.returns-else-s-j
+returns-else-s-j c =
+    let a = c.args in
+    elim c.if-j-s.branch [
+      | then-j-s w ↦ c.if-s-j.false ∙ starts_not a.mark.now a.s.now _ c.requires w.if-j-s.true (eqb-false _ _ (sym w.value-is ∙ c.if-s-j.false))
+      | else-j-s w ↦ c.if-s-j.false ∙ starts_past a.mark.now a.s.now _ c.requires w.if-j-s.false
+    ]

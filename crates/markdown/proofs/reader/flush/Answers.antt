@@ -2,10 +2,12 @@
 -- Assumes nothing.
 use Rattle.markdown.proofs.StateLaws.{safe_inside, safe_small, flush_none, flush_text}
 use native.Mathlib.Omega.{arith}
+use mathlib.Core.Path.{sym, ◌∙◌}
+use borrow.Author.Tests.{eqb-true, eqb-false}
 use Rattle.markdown.proofs.reader.flush.Goals as goal
 
-pub returns-then-s : goal.returns-then-s
-returns-then-s c = flush_none _ _ _ _ c.requires.0 c.if-s.true
+pub returns-then-is_empty : goal.returns-then-is_empty
+returns-then-is_empty c = flush_none _ _ _ _ c.requires.0 (eqb-true _ _ (sym c.is_empty.ensures ∙ c.if-is_empty.true))
 
 pub text_of-text-requires : goal.text_of-text-requires
 text_of-text-requires c = safe_inside _ _ c.args.s c.requires.0
@@ -18,4 +20,4 @@ put_paragraph-p-requires c =
 pub returns : goal.returns
 returns c =
     let e = c.put_paragraph-p.ensures in
-    flush_text _ _ _ _ _ _ _ c.requires.0 c.text_of-text.ensures c.if-s.false e.0 e.1
+    rw c.lent.ensures (flush_text _ _ _ _ _ _ _ c.requires.0 c.text_of-text.ensures (eqb-false _ _ (sym c.is_empty.ensures ∙ c.if-is_empty.false)) e.0 e.1)

@@ -3,8 +3,8 @@
 use Rattle.markdown.proofs.ParagraphLaws.{open_part, open_copied}
 use Rattle.markdown.proofs.reader.open_paragraph.Goals as goal
 
-pub returns-then-copied : goal.returns-then-copied
-returns-then-copied c = open_copied _ _ c.args.s c.args.copied _ _ c.requires _ c.if-copied.true c.put_text.ensures
+pub returns-then-text : goal.returns-then-text
+returns-then-text c = rw (c.copied.ensures, c.len.ensures) (open_copied _ _ c.args.s c.args.text.copied _ _ c.requires _ c.if-text.true (rw c.if-text.true at c.put_text.ensures))
 
 pub returns : goal.returns
-returns c = open_part _ _ c.args.s c.args.copied _ _ c.requires c.if-copied.false
+returns c = open_part _ _ c.args.s c.args.text.copied _ _ c.requires c.if-text.false

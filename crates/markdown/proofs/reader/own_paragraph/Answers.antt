@@ -16,4 +16,4 @@ put_text-requires c =
     (u.order, ((rw c.if-s.false at u.place), (omega arith, omega (arith, l, u.room))))
 
 pub returns : goal.returns
-returns c = owned_copied _ _ _ _ c.requires c.if-s.false c.put_text.ensures
+returns c = owned_copied _ _ _ _ c.requires c.if-s.false (rw c.if-s.false at c.put_text.ensures)

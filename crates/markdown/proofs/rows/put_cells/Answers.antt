@@ -19,20 +19,20 @@ bounds-work-k c = let v = c.loop-i.invariant in omega (arith, v.size, v.room, v.
 pub overflow_add-k : goal.overflow_add-k
 overflow_add-k c = let v = c.loop-i.invariant in omega (arith, v.room, v.high, v.low, c.requires.1.1, c.well_formed.0.0)
 
-pub loop-i-preserved-then-n-eq0 : goal.loop-i-preserved-then-n-eq0
-loop-i-preserved-then-n-eq0 c = filling_other _ _ _ _ _ _ _ c.loop-i.invariant c.requires.1.0 c.requires.1.1 c.loop-i-test.true _ c.bar_of-n.ensures c.if-n-eq0.true
+pub loop-i-preserved-in_default : goal.loop-i-preserved-in_default
+loop-i-preserved-in_default c = filling_other _ _ _ _ _ _ _ c.loop-i.invariant c.requires.1.0 c.requires.1.1 c.loop-i-test.true _ c.bar_of.ensures c.in_default.is
 
 pub overflow_add-i-in-loop-i : goal.overflow_add-i-in-loop-i
-overflow_add-i-in-loop-i c = let h = bar_in _ _ _ _ _ _ _ c.loop-i.invariant c.requires.1.0 c.requires.1.1 c.loop-i-test.true _ c.bar_of-n.ensures in omega (arith, h)
+overflow_add-i-in-loop-i c = let h = bar_in _ _ _ _ _ _ _ c.loop-i.invariant c.requires.1.0 c.requires.1.1 c.loop-i-test.true _ c.bar_of.ensures _ c.in-Some.is in omega (arith, h)
 
 pub overflow_add-k-in-loop-i : goal.overflow_add-k-in-loop-i
 overflow_add-k-in-loop-i c = let v = c.loop-i.invariant in omega (arith, v.room, v.high, v.low, c.requires.1.1, c.well_formed.0.0)
 
 pub loop-i-smaller : goal.loop-i-smaller
-loop-i-smaller c = let h = bar_in _ _ _ _ _ _ _ c.loop-i.invariant c.requires.1.0 c.requires.1.1 c.loop-i-test.true _ c.bar_of-n.ensures in omega (arith, h)
+loop-i-smaller c = let h = bar_in _ _ _ _ _ _ _ c.loop-i.invariant c.requires.1.0 c.requires.1.1 c.loop-i-test.true _ c.bar_of.ensures _ c.in-Some.is in omega (arith, h)
 
 pub loop-i-preserved : goal.loop-i-preserved
-loop-i-preserved c = filling_dot _ _ _ _ _ _ _ c.loop-i.invariant c.requires.1.0 c.requires.1.1 c.loop-i-test.true _ c.bar_of-n.ensures _ c.if-n-eq0.false c.put_dot.ensures
+loop-i-preserved c = filling_dot _ _ _ _ _ _ _ c.loop-i.invariant c.requires.1.0 c.requires.1.1 c.loop-i-test.true _ c.bar_of.ensures _ _ c.in-Some.is c.put_bytes.ensures
 
 pub shape_of-work : goal.shape_of-work
 shape_of-work c = c.loop-i.invariant.size

@@ -5,7 +5,7 @@ use Prim.Native.Nat.{◌-◌}
 use Rattle.markdown.proofs.rows.put_cells.Given as goal
 
 abbrev pub invariant-loop-i : goal.invariant-loop-i
-invariant-loop-i l = Filling l.initial.work l.work l.a l.b l.at l.i l.k
+invariant-loop-i l = Filling l.initial.work l.work l.part.start l.part.end l.at l.i l.k
 
 abbrev pub decreases-loop-i : goal.decreases-loop-i
-decreases-loop-i l = l.b - l.i
+decreases-loop-i l = l.part.end - l.i

@@ -19,14 +19,15 @@ returns-then-not-is_ruled c = sym (sym c.loop-j.invariant.0 ∙ ruled_stop _ _ c
 one : (c : Else-not-is_ruled) → all ruled (drop (c.loop-j.j + 1) c.args.line.now) ≡ all ruled (drop c.args.i c.args.line.now)
 one c = sym (ruled_next _ _ c.loop-j-test.true (sym c.is_ruled.ensures ∙ c.if-not-is_ruled.false)) ∙ c.loop-j.invariant.0
 
-pub ruled_blocks-j-requires : goal.ruled_blocks-j-requires
-ruled_blocks-j-requires c = omega (arith, c.loop-j-test.true)
-
 pub loop-j-smaller-then-j-eq0 : goal.loop-j-smaller-then-j-eq0
-loop-j-smaller-then-j-eq0 c = omega (arith, c.ruled_blocks-j.ensures.low, c.ruled_blocks-j.ensures.high)
+loop-j-smaller-then-j-eq0 c =
+    let run = c.past_blocks-j.ensures.run (omega (arith, c.loop-j-test.true)) in
+    omega (arith, run.low, run.high)
 
 pub loop-j-preserved-then-j-eq0 : goal.loop-j-preserved-then-j-eq0
-loop-j-preserved-then-j-eq0 c = (sym (ruled_run _ _ _ c.ruled_blocks-j.ensures) ∙ one (goal.at.loop-j-preserved-then-j-eq0 c).Else-not-is_ruled, c.ruled_blocks-j.ensures.high)
+loop-j-preserved-then-j-eq0 c =
+    let run = c.past_blocks-j.ensures.run (omega (arith, c.loop-j-test.true)) in
+    (sym (ruled_run _ _ _ run) ∙ one (goal.at.loop-j-preserved-then-j-eq0 c).Else-not-is_ruled, run.high)
 
 pub loop-j-preserved : goal.loop-j-preserved
 loop-j-preserved c = (one (goal.at.loop-j-preserved c).Else-not-is_ruled, omega arith)

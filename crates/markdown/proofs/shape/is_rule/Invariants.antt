@@ -9,6 +9,3 @@ use Rattle.markdown.proofs.shape.is_rule.Given as goal
 
 abbrev pub invariant-loop-i : goal.invariant-loop-i
 invariant-loop-i l = (all ruled (drop l.i l.line) ≡ all ruled l.line) × ((any marks (drop l.i l.line) ≡ any marks l.line) × (l.i ≤ length l.line))
-
-abbrev pub decreases-loop-i : goal.decreases-loop-i
-decreases-loop-i l = length l.line - l.i

@@ -3,8 +3,8 @@
 use borrow.Author.Tests.{eq-eqb, ne_eqb}
 use Rattle.markdown.proofs.writer.next_span.Goals as goal
 
-pub returns-then-s-eq0 : goal.returns-then-s-eq0
-returns-then-s-eq0 c = rw (eq-eqb _ _ c.if-s-eq0.true)
+pub returns-then-item-eq0 : goal.returns-then-item-eq0
+returns-then-item-eq0 c = rw (eq-eqb _ _ c.if-item-eq0.true)
 
 pub returns : goal.returns
-returns c = rw (ne_eqb _ _ c.if-s-eq0.false)
+returns c = rw (ne_eqb _ _ c.if-item-eq0.false)

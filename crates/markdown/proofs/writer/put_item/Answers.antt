@@ -14,13 +14,13 @@ use Rattle.markdown.proofs.writer.put_item.Goals as goal
 pub put_spans-w-requires : goal.put_spans-w-requires
 put_spans-w-requires c =
     let p = c.requires in
-    let k = kind_short c.args.digits.now c.args.depth p.1.1.0 p.1.1.1 in
+    let k = kind_short c.args.digits.bytes.now c.args.depth c.args.digits.few c.args.digits.ascii in
     let f = c.put_fields-fields.ensures.0 in
-    (omega (arith, f), (omega (arith, f, k, p.0), (p.1.0, omega (arith, c.item_map-map.ensures [], bits_low c.args.depth []))))
+    (omega (arith, f), (omega (arith, f, k, p.0), (p.1, omega (arith, c.item_map-map.ensures [], bits_low c.args.depth []))))
 
 pub returns : goal.returns
 returns c =
-    let mk = mark c.args.digits.now in
+    let mk = mark c.args.digits.bytes.now in
     let b = Item c.args.depth mk (spans (chars c.args.text.now)) in
     let p = c.put_spans-w.ensures in
     let f = c.put_fields-fields.ensures in

@@ -13,4 +13,4 @@ pub returns : goal.returns
 returns c =
     let p = c.requires in
     let e = c.spans-w.ensures in
-    put_some _ _ _ _ _ _ _ p.1.0 p.1.1.0 e.0 e.1.0 e.1.1 _ _ c.if-w-eq0.false c.put_u32.ensures c.put-2.ensures
+    put_some _ _ _ _ _ _ _ p.1.0 p.1.1.0 e.0 e.1.0 e.1.1 _ _ c.if-w-eq0.false c.put_number.ensures c.put-2.ensures

@@ -5,9 +5,6 @@ use mathlib.Core.Path.{sym, ◌∙◌}
 use Rattle.text.proofs.BesideLaws.{fit_same}
 use Rattle.text.proofs.beside.past_block.Goals as goal
 
-pub overflow_add-j : goal.overflow_add-j
-overflow_add-j c = let h = c.last_clear-j.ensures.0.0 in omega arith
-
 pub returns-then-e-j : goal.returns-then-e-j
 returns-then-e-j c =
     let a = c.args in

@@ -1,7 +1,5 @@
 -- `text::code_at` meets its contract.
 -- Assumes nothing.
-use Prim.Native.Nat.{◌+◌}
-use native.Mathlib.Omega.{arith}
 use mathlib.Core.Path.{sym, ◌∙◌}
 use Rattle.text.proofs.Utf8.{char_past, char_four}
 use Rattle.text.proofs.Laws.{code_is, code_end}
@@ -10,11 +8,5 @@ use Rattle.text.proofs.decoding.code_at.Goals as goal
 pub returns-then-s-i : goal.returns-then-s-i
 returns-then-s-i c = sym (code_end _ _ (char_past c.args.s.now c.args.i c.if-s-i.true))
 
-pub code_or_stray-requires : goal.code_or_stray-requires
-code_or_stray-requires c =
-    let known = c.type_inv.s in
-    let i = c.args.i in
-    omega (arith, c.four_at-f.ensures.first, known i, c.four_at-f.ensures.second, known (i + 1))
-
 pub returns : goal.returns
-returns c = c.code_or_stray.ensures ∙ sym (rw (code_is c.args.s.now c.args.i c.if-s-i.false, char_four c.args.s.now c.args.i _ c.if-s-i.false c.four_at-f.ensures, c.four_at-f.ensures.first))
+returns c = c.code_or_stray.ensures ∙ sym (rw (code_is c.args.s.now c.args.i c.if-s-i.false, char_four c.args.s.now c.args.i _ c.if-s-i.false c.four_at.ensures, c.four_at.ensures.first))

@@ -1,42 +1,15 @@
--- `text::cut_end` meets its contract.
+-- `text::cut_end` meets its contract. The loop's invariant: no character that starts less than k bytes before n goes on past it.
 -- Assumes nothing.
 use native.Mathlib.Omega.{arith}
-use mathlib.Core.Path.{sym, ◌∙◌}
-use Rattle.text.specs.Cut.{cut_end}
-use Rattle.text.proofs.CutLaws.{reach}
+use mathlib.Core.Path.{◌≡◌, sym, ◌∙◌}
+use Rattle.text.proofs.CutLaws.{reach, cut_at, cut_nowhere}
 use Rattle.text.proofs.parts.cut_end.Goals as goal
 
 pub overflow_sub-result : goal.overflow_sub-result
 overflow_sub-result c = reach _ _ _ (sym c.is_split.ensures ∙ c.if-is_split.true)
 
 pub returns-then-is_split : goal.returns-then-is_split
-unfolding cut_end
-returns-then-is_split c = rw (sym c.is_split.ensures ∙ c.if-is_split.true)
-
-pub overflow_sub-result-then-is_split-2 : goal.overflow_sub-result-then-is_split-2
-overflow_sub-result-then-is_split-2 c = let h = reach _ _ _ (sym c.is_split-2.ensures ∙ c.if-is_split-2.true) in omega arith
-
-pub returns-then-is_split-2 : goal.returns-then-is_split-2
-unfolding cut_end
-returns-then-is_split-2 c = rw (sym c.is_split.ensures ∙ c.if-is_split.false, sym c.is_split-2.ensures ∙ c.if-is_split-2.true)
-
-pub overflow_sub-result-then-is_split-3 : goal.overflow_sub-result-then-is_split-3
-overflow_sub-result-then-is_split-3 c = reach _ _ _ (sym c.is_split-3.ensures ∙ c.if-is_split-3.true)
-
-pub returns-then-is_split-3 : goal.returns-then-is_split-3
-unfolding cut_end
-returns-then-is_split-3 c =
-    rw (
-      sym c.is_split.ensures ∙ c.if-is_split.false,
-      sym c.is_split-2.ensures ∙ c.if-is_split-2.false,
-      sym c.is_split-3.ensures ∙ c.if-is_split-3.true,
-    )
+returns-then-is_split c = cut_at c.args.s.now c.args.n c.loop-k.k (omega arith) (omega arith) c.loop-k.invariant (sym c.is_split.ensures ∙ c.if-is_split.true)
 
 pub returns : goal.returns
-unfolding cut_end
-returns c =
-    rw (
-      sym c.is_split.ensures ∙ c.if-is_split.false,
-      sym c.is_split-2.ensures ∙ c.if-is_split-2.false,
-      sym c.is_split-3.ensures ∙ c.if-is_split-3.false,
-    )
+returns c = let e : c.loop-k.k ≡ 4 = omega arith in cut_nowhere c.args.s.now c.args.n (rw e at c.loop-k.invariant)

@@ -2,11 +2,11 @@
 -- Assumes nothing.
 use Prim.Native.Nat.{◌+◌}
 use native.Mathlib.Omega.{arith}
-use mathlib.Core.Path.{◌≡◌, sym, ap, ◌∙◌}
+use mathlib.Core.Path.{sym, ap, ◌∙◌}
 use lib.ListN.{length, length-drop, drop}
-use lib.Seq.{length-take-le, take_all}
+use lib.Seq.{take_all}
 use Rattle.text.specs.Utf8.{chars, encode}
-use Rattle.text.proofs.Laws.{Next, next_is, Pos, pos_zero, pos_next, encode_chars, chars_length}
+use Rattle.text.proofs.Laws.{Next, next_is, Pos, pos_next, encode_chars, chars_length}
 use Rattle.text.proofs.AsciiLaws.{pos_ascii}
 use Rattle.text.proofs.parts.first.Goals as goal
 use Rattle.text.proofs.parts.first.Goals.{After-ascii_step-w, After-size_at-i}
@@ -19,12 +19,6 @@ step c = rw c.size_at-i.ensures (next_is _ _ (let h = c.loop-k.invariant.0.bound
 passed : (c : After-ascii_step-w) → Pos c.args.s.now (c.loop-k.i + c.ascii_step-w.result) (c.loop-k.k + c.ascii_step-w.result)
 passed c = pos_ascii _ _ _ _ c.loop-k.invariant.0 (let h = c.ascii_step-w.ensures.1.1 in omega arith) c.ascii_step-w.ensures.0
 
-pub loop-k-init : goal.loop-k-init
-loop-k-init c = (pos_zero _, omega arith)
-
-pub overflow_sub-s : goal.overflow_sub-s
-overflow_sub-s c = c.loop-k.invariant.0.bound
-
 pub returns-then-s-i : goal.returns-then-s-i
 returns-then-s-i c =
     let s = c.args.s.now in
@@ -36,23 +30,6 @@ returns-then-s-i c =
     let q = ap length p.left in
     sym (ap encode (take_all c.args.n (chars s) (omega arith)) ∙ encode_chars s)
 
-pub bounds-s-i : goal.bounds-s-i
-bounds-s-i c = let h = c.loop-k.invariant.0.bound in omega arith
-
-pub ascii_step-w-requires : goal.ascii_step-w-requires
-ascii_step-w-requires c =
-    let b = c.loop-k.invariant.0.bound in
-    (c.if-s-i-lt128.true, (omega arith, omega arith))
-
-pub overflow_add-k : goal.overflow_add-k
-overflow_add-k c = let h = c.ascii_step-w.ensures.1.1 in omega arith
-
-pub overflow_add-i : goal.overflow_add-i
-overflow_add-i c = let h = (passed c).bound in omega arith
-
-pub loop-k-smaller-then-s-i-lt128 : goal.loop-k-smaller-then-s-i-lt128
-loop-k-smaller-then-s-i-lt128 c = let h = c.ascii_step-w.ensures.1 in omega (arith, h.0, h.1)
-
 pub loop-k-preserved-then-s-i-lt128 : goal.loop-k-preserved-then-s-i-lt128
 loop-k-preserved-then-s-i-lt128 c = let h = c.ascii_step-w.ensures.1.1 in (passed c, omega arith)
 
@@ -61,12 +38,3 @@ overflow_add-i-in-loop-k c = let h = step c in omega (arith, h.bound)
 
 pub loop-k-preserved : goal.loop-k-preserved
 loop-k-preserved c = (pos_next _ _ _ _ c.loop-k.invariant.0 (step c), omega arith)
-
-pub slice_bounds-result-end : goal.slice_bounds-result-end
-slice_bounds-result-end c = sym (length-take-le _ _ c.loop-k.invariant.0.bound)
-
-pub returns : goal.returns
-returns c =
-    let v = c.loop-k.invariant in
-    let q : c.loop-k.k ≡ c.args.n = omega arith in
-    v.0.front ∙ rw q

@@ -3,15 +3,16 @@
 use Prim.Native.Nat.{◌-◌}
 use native.Mathlib.Omega.{arith}
 use mathlib.Core.Bool.{false}
-use mathlib.Core.Path.{◌≡◌, ◌∙◌}
-use lib.Dec.{ltb, eqb}
+use mathlib.Core.Path.{◌≡◌, sym, ◌∙◌}
+use lib.Dec.{ltb}
 use lib.ListN.{drop}
-use borrow.Author.Tests.{lt-ltb, le-ltb, eq-eqb, ne_eqb}
+use borrow.Author.Tests.{lt-ltb, le-ltb}
 use Rattle.text.specs.Utf8.{char}
 use Rattle.text.specs.Trim.{space_at, space_before}
+use Rattle.text.proofs.Sizes.{size_eq}
 use Rattle.text.proofs.WideLaws.{not_one, wide_is}
 use Rattle.text.proofs.trimming.space_before.Goals as goal
-use Rattle.text.proofs.trimming.space_before.Goals.{After-wide_space, After-wide_space-2, Else-e-lt2, Else-e-lt3, Start}
+use Rattle.text.proofs.trimming.space_before.Goals.{After-eq, After-eq-2, Else-e-lt2, Else-e-lt3, Start}
 
 -- what is known from the start, and what the tests say at each place
 l1 : (c : Start) → ltb c.args.e 1 ≡ false
@@ -23,29 +24,29 @@ q1 c = not_one c.args.s.now (c.args.e - 1) (omega arith) (omega arith)
 l2 : (c : Else-e-lt2) → ltb c.args.e 2 ≡ false
 l2 c = le-ltb c.args.e 2 c.if-e-lt2.false
 
-q2 : (c : After-wide_space) → space_at (drop (c.args.e - 2) c.args.s.now) 2 ≡ eqb c.wide_space.result 2
+q2 : (c : After-eq) → space_at (drop (c.args.e - 2) c.args.s.now) 2 ≡ c.eq.result
 unfolding space_at
-q2 c = wide_is (char (drop (c.args.e - 2) c.args.s.now)) 2 (omega arith) ∙ rw c.wide_space.ensures
+q2 c = wide_is (char (drop (c.args.e - 2) c.args.s.now)) 2 (omega arith) ∙ sym (c.eq.ensures ∙ rw c.wide_space.ensures (size_eq _ 1))
 
 l3 : (c : Else-e-lt3) → ltb c.args.e 3 ≡ false
 l3 c = le-ltb c.args.e 3 c.if-e-lt3.false
 
-q3 : (c : After-wide_space-2) → space_at (drop (c.args.e - 3) c.args.s.now) 3 ≡ eqb c.wide_space-2.result 3
+q3 : (c : After-eq-2) → space_at (drop (c.args.e - 3) c.args.s.now) 3 ≡ c.eq-2.result
 unfolding space_at
-q3 c = wide_is (char (drop (c.args.e - 3) c.args.s.now)) 3 (omega arith) ∙ rw c.wide_space-2.ensures
+q3 c = wide_is (char (drop (c.args.e - 3) c.args.s.now)) 3 (omega arith) ∙ sym (c.eq-2.ensures ∙ rw c.wide_space-2.ensures (size_eq _ 2))
 
 pub returns-then-e-lt2 : goal.returns-then-e-lt2
 unfolding space_before
 returns-then-e-lt2 c = simp (l1 (goal.at.returns-then-e-lt2 c).Start, q1 (goal.at.returns-then-e-lt2 c).Start, lt-ltb c.args.e 2 c.if-e-lt2.true)
 
-pub returns-then-wide_space-eq2 : goal.returns-then-wide_space-eq2
+pub returns-then-eq : goal.returns-then-eq
 unfolding space_before
-returns-then-wide_space-eq2 c =
+returns-then-eq c =
     simp (
-      l1 (goal.at.returns-then-wide_space-eq2 c).Start,
-      q1 (goal.at.returns-then-wide_space-eq2 c).Start,
-      l2 (goal.at.returns-then-wide_space-eq2 c).Else-e-lt2,
-      q2 (goal.at.returns-then-wide_space-eq2 c).After-wide_space ∙ eq-eqb _ 2 c.if-wide_space-eq2.true,
+      l1 (goal.at.returns-then-eq c).Start,
+      q1 (goal.at.returns-then-eq c).Start,
+      l2 (goal.at.returns-then-eq c).Else-e-lt2,
+      q2 (goal.at.returns-then-eq c).After-eq ∙ c.if-eq.true,
     )
 
 pub returns-then-e-lt3 : goal.returns-then-e-lt3
@@ -55,20 +56,20 @@ returns-then-e-lt3 c =
       l1 (goal.at.returns-then-e-lt3 c).Start,
       q1 (goal.at.returns-then-e-lt3 c).Start,
       l2 (goal.at.returns-then-e-lt3 c).Else-e-lt2,
-      q2 (goal.at.returns-then-e-lt3 c).After-wide_space ∙ ne_eqb _ 2 c.if-wide_space-eq2.false,
+      q2 (goal.at.returns-then-e-lt3 c).After-eq ∙ c.if-eq.false,
       lt-ltb c.args.e 3 c.if-e-lt3.true,
     )
 
-pub returns-then-wide_space-eq3 : goal.returns-then-wide_space-eq3
+pub returns-then-eq-2 : goal.returns-then-eq-2
 unfolding space_before
-returns-then-wide_space-eq3 c =
+returns-then-eq-2 c =
     simp (
-      l1 (goal.at.returns-then-wide_space-eq3 c).Start,
-      q1 (goal.at.returns-then-wide_space-eq3 c).Start,
-      l2 (goal.at.returns-then-wide_space-eq3 c).Else-e-lt2,
-      q2 (goal.at.returns-then-wide_space-eq3 c).After-wide_space ∙ ne_eqb _ 2 c.if-wide_space-eq2.false,
-      l3 (goal.at.returns-then-wide_space-eq3 c).Else-e-lt3,
-      q3 (goal.at.returns-then-wide_space-eq3 c).After-wide_space-2 ∙ eq-eqb _ 3 c.if-wide_space-eq3.true,
+      l1 (goal.at.returns-then-eq-2 c).Start,
+      q1 (goal.at.returns-then-eq-2 c).Start,
+      l2 (goal.at.returns-then-eq-2 c).Else-e-lt2,
+      q2 (goal.at.returns-then-eq-2 c).After-eq ∙ c.if-eq.false,
+      l3 (goal.at.returns-then-eq-2 c).Else-e-lt3,
+      q3 (goal.at.returns-then-eq-2 c).After-eq-2 ∙ c.if-eq-2.true,
     )
 
 pub returns : goal.returns
@@ -78,7 +79,7 @@ returns c =
       l1 (goal.at.returns c).Start,
       q1 (goal.at.returns c).Start,
       l2 (goal.at.returns c).Else-e-lt2,
-      q2 (goal.at.returns c).After-wide_space ∙ ne_eqb _ 2 c.if-wide_space-eq2.false,
+      q2 (goal.at.returns c).After-eq ∙ c.if-eq.false,
       l3 (goal.at.returns c).Else-e-lt3,
-      q3 (goal.at.returns c).After-wide_space-2 ∙ ne_eqb _ 3 c.if-wide_space-eq3.false,
+      q3 (goal.at.returns c).After-eq-2 ∙ c.if-eq-2.false,
     )

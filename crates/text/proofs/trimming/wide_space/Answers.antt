@@ -3,14 +3,15 @@
 use native.Mathlib.Omega.{arith}
 use mathlib.Core.Logic.{inl, inr}
 use mathlib.Core.Bool.{true, ◌&&◌}
-use mathlib.Core.Path.{◌≡◌, sym, ◌∙◌}
+use mathlib.Core.Path.{◌≡◌, sym, ap, ◌∙◌}
 use Prim.Native.Nat.{◌+◌, ◌-◌}
 use lib.ListN.{get_or, drop}
 use Rattle.std.specs.Prelude.{if◌then◌else◌}
 use Rattle.text.specs.Chars.{is_space}
-use Rattle.text.specs.Utf8.{tail, join, char}
+use Rattle.text.specs.Utf8.{tail, join, char, some_size}
+use Rattle.text.proofs.Sizes.{size_if}
 use Rattle.text.specs.Trim.{wide_space}
-use Rattle.text.proofs.Tests.{and_true, within_true}
+use Rattle.text.proofs.Tests.{and_true}
 use Rattle.text.proofs.WideLaws.{wide_none_at, wide_two_at, wide_three_at}
 use Rattle.text.proofs.trimming.wide_space.Goals as goal
 use Rattle.text.proofs.trimming.wide_space.Goals.{After-is_tail-2, Else-not-is_tail}
@@ -27,30 +28,24 @@ both c =
 three : (c : After-is_tail-2) → wide_space (char (drop c.args.i c.args.s.now))
     ≡ (if tail (get_or c.args.s.now (c.args.i + 1) 0) && tail (get_or c.args.s.now (c.args.i + 2) 0) then if is_space
     (join (join (get_or c.args.s.now c.args.i 0 - 0xE0) (get_or c.args.s.now (c.args.i + 1) 0)) (get_or c.args.s.now (c.args.i + 2) 0)) then 3 else 0 else 0)
-three c = wide_three_at c.args.s.now c.args.i (omega arith) (omega (arith, c.wide-a.ensures, c.if-a-lt225.false)) (omega (arith, c.wide-a.ensures, c.if-a-gt227.false))
+three c = wide_three_at c.args.s.now c.args.i (omega arith) (omega (arith, c.from-a.ensures, c.if-a-lt225.false)) (omega (arith, c.from-a.ensures, c.if-a-gt227.false))
 
 pub returns-then-a-eq194 : goal.returns-then-a-eq194
-returns-then-a-eq194 c = c.when.ensures ∙ rw c.byte-b.ensures (sym (wide_two_at c.args.s.now c.args.i (omega arith) (sym c.wide-a.ensures ∙ c.if-a-eq194.true)))
+returns-then-a-eq194 c =
+    c.then_some.ensures ∙ size_if _ 2 (omega arith)
+    ∙ ap some_size (rw c.byte-b.ensures (sym (wide_two_at c.args.s.now c.args.i (omega arith) (sym c.from-a.ensures ∙ c.if-a-eq194.true))))
 
 pub returns-then-a-lt225 : goal.returns-then-a-lt225
-returns-then-a-lt225 c = sym (wide_none_at c.args.s.now c.args.i (omega arith) (λ e. c.if-a-eq194.false (c.wide-a.ensures ∙ e)) (inl (omega (arith, c.wide-a.ensures, c.if-a-lt225.true))))
+returns-then-a-lt225 c = sym (ap some_size (wide_none_at c.args.s.now c.args.i (omega arith) (λ e. c.if-a-eq194.false (c.from-a.ensures ∙ e)) (inl (omega (arith, c.from-a.ensures, c.if-a-lt225.true)))))
 
 pub returns-then-a-gt227 : goal.returns-then-a-gt227
-returns-then-a-gt227 c = sym (wide_none_at c.args.s.now c.args.i (omega arith) (λ e. c.if-a-eq194.false (c.wide-a.ensures ∙ e)) (inr (omega (arith, c.wide-a.ensures, c.if-a-gt227.true))))
+returns-then-a-gt227 c = sym (ap some_size (wide_none_at c.args.s.now c.args.i (omega arith) (λ e. c.if-a-eq194.false (c.from-a.ensures ∙ e)) (inr (omega (arith, c.from-a.ensures, c.if-a-gt227.true)))))
 
 pub returns-then-not-is_tail : goal.returns-then-not-is_tail
-returns-then-not-is_tail c = sym (three (goal.at.returns-then-not-is_tail c).After-is_tail-2 ∙ rw (sym (tails (goal.at.returns-then-not-is_tail c).After-is_tail-2) ∙ c.if-not-is_tail.true))
-
-pub join-requires : goal.join-requires
-join-requires c = (omega (arith, c.if-a-gt227.false), (both c).0)
-
-pub join-requires-2 : goal.join-requires-2
-join-requires-2 c = (
-  omega (arith, c.join.ensures, c.if-a-gt227.false, within_true 0x80 0xBF c.byte-b-2.result (both (goal.at.join-requires-2 c).Else-not-is_tail).0),
-  (both (goal.at.join-requires-2 c).Else-not-is_tail).1,
-)
+returns-then-not-is_tail c = sym (ap some_size {y = 0} (three (goal.at.returns-then-not-is_tail c).After-is_tail-2 ∙ rw (sym (tails (goal.at.returns-then-not-is_tail c).After-is_tail-2) ∙ c.if-not-is_tail.true)))
 
 pub returns : goal.returns
 returns c =
-    c.when-2.ensures ∙ rw (c.is_space.ensures, c.join-2.ensures, c.join.ensures, c.wide-a.ensures, c.byte-b-2.ensures, c.byte-c.ensures)
-    (sym (three (goal.at.returns c).After-is_tail-2 ∙ rw (sym (tails (goal.at.returns c).After-is_tail-2) ∙ c.if-not-is_tail.false)))
+    c.then_some-2.ensures ∙ size_if _ 3 (omega arith)
+    ∙ ap some_size (rw (c.is_space.ensures, c.join-2.ensures, c.join.ensures, c.from-a.ensures, c.byte-b-2.ensures, c.byte-c.ensures)
+    (sym (three (goal.at.returns c).After-is_tail-2 ∙ rw (sym (tails (goal.at.returns c).After-is_tail-2) ∙ c.if-not-is_tail.false))))

@@ -11,12 +11,13 @@ use Rattle.html.proofs.StepLaws.{spaced_len}
 use Rattle.html.proofs.TextLaws.{pending_most}
 use Rattle.html.proofs.words.Pen.bare.Goals as goal
 
-pub push-m-requires : goal.push-m-requires
-push-m-requires c =
+pub push-requires : goal.push-requires
+push-requires c =
     let k = spaced_len c.spaced-n.result c.args.self.len c.args.out.now _ c.args.self.space c.spaced-n.ensures in
     let m = pending_most c.args.self.space in
     (omega arith, c.requires.1)
 
 pub returns : goal.returns
 unfolding pen_state
-returns c = (λ s. ap (λ (x : List ℕ). with_out x false s) (c.push-m.ensures ∙ ap (λ (x : List ℕ). c.args.b ∷ x) c.spaced-n.ensures), refl)
+returns c =
+    rw c.behind.ensures (λ s. ap (λ (x : List ℕ). with_out x false s) (c.push.ensures ∙ ap (λ (x : List ℕ). c.args.b ∷ x) c.spaced-n.ensures), refl)

@@ -1,0 +1,12 @@
+// The digits of a list marker.
+ghost use Rattle.std.specs.Prelude.{◌≤◌, ◌≡◌, true, length};
+ghost use Rattle.text.specs.Words.{all};
+ghost use Rattle.text.specs.Chars.{is_digit};
+
+// At most nine digits, and none where the marker is a bullet.
+#[derive(Clone, Copy)]
+pub struct Digits<'a> {
+    pub bytes: &'a [u8],
+    ghost few: { length bytes.now ≤ 9 },
+    ghost ascii: { all is_digit bytes.now ≡ true },
+}

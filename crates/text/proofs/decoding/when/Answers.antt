@@ -1,9 +1,0 @@
--- `text::when` meets its contract.
--- Assumes nothing.
-use Rattle.text.proofs.decoding.when.Goals as goal
-
-pub returns-then-t : goal.returns-then-t
-returns-then-t c = rw c.if-t.true
-
-pub returns-else-t : goal.returns-else-t
-returns-else-t c = rw c.if-t.false

@@ -1,0 +1,46 @@
+// What the walker finds: a block, a span, or that nothing well-formed stands there.
+ghost use Rattle.std.specs.Prelude.{◌≡◌};
+
+use text::Part;
+
+// No well-formed block or span stands at the offset. Document 01's number for it is 7.
+#[derive(Clone, Copy, PartialEq, Eq, Debug)]
+pub struct Broken;
+
+impl From<Broken> for u32 {
+    ghost from_gives = { λ _ n. n ≡ 7 };
+
+    fn from(_e: Broken) -> u32 {
+        7
+    }
+}
+
+#[derive(Clone, Copy, PartialEq, Eq, Debug)]
+pub enum Kind {
+    Heading { level: usize },
+    Paragraph,
+    Item { depth: usize },
+}
+
+// A block's kind, how many spans it has, and where the next block stands.
+#[derive(Clone, Copy, PartialEq, Eq, Debug)]
+pub struct Block {
+    pub kind: Kind,
+    pub count: usize,
+    pub next: usize,
+}
+
+#[derive(Clone, Copy, PartialEq, Eq, Debug)]
+pub struct Emphasis {
+    pub bold: bool,
+    pub italic: bool,
+    pub code: bool,
+}
+
+// A span's emphasis, where its text stands, and where the next span stands, or the next block behind the last span.
+#[derive(Clone, Copy)]
+pub struct Span {
+    pub emphasis: Emphasis,
+    pub text: Part,
+    pub next: usize,
+}
