@@ -61,7 +61,7 @@ pub fn filtered(input: &[u8], out: &mut [u8; 32001]) -> usize
     convert(input, out)
 }
 
-// The text for some bytes, in what was written. std says of what is copied into a slice how many bytes it is, and not which.
+// The program's text for an input, behind what was written before.
 fn written<W: Write>(input: &[u8], writer: &mut W) -> io::Result<()>
     ensures { OnOk result (Appends (W.contents writer.old) (W.contents writer.new) (program_text input.now)) }
 {
@@ -70,7 +70,8 @@ fn written<W: Write>(input: &[u8], writer: &mut W) -> io::Result<()>
     writer.write_all(text::front(&out, n))
 }
 
-// The program. One byte above the limit is enough of an input that is too long.
+// The program: it writes its text for an input. That this is what the reader gave, no clause can say, since std says of what is copied into a slice
+// how many bytes it is, and not which. One byte above the limit is enough of an input that is too long.
 pub fn run<R: Read + Drop, W: Write>(reader: R, writer: &mut W) -> io::Result<()>
     ensures { OnOk result ((input : List ℕ) × Appends (W.contents writer.old) (W.contents writer.new) (program_text input)) }
 {

@@ -3,8 +3,8 @@ ghost use Rattle.std.specs.Prelude.{◌≤◌};
 
 use crate::Skipped;
 
-// Stay an array and how many of it are in use, by a: no heap, so the open lists stand in fixed memory.
-// Stay two flags, by d: each is a fact of its own, and no value stands beside it.
+// An array and how many of it are in use: there is no heap, so the open lists stand in fixed memory.
+// Two flags: each is a fact of its own, and no value stands beside it.
 // How many bytes of the lent output are written, how many lists are open, their numbers (0 for `ul`, for `ol` one more than the items begun; the
 // output is full before one of them has 2 ^ 16), whether text is in `pre`, the tag whose text is being skipped, and whether a space is pending.
 #[derive(Clone, Copy)]

@@ -21,7 +21,7 @@ use page::convert;
 pub use words::special;
 
 // Why there is no Markdown for a page.
-// Stays beside markdown's error, by d: each call refuses for reasons of its own, and one type for both would have cases that a call never answers.
+// Stays beside markdown's error: each call refuses for reasons of its own, and one type for both would have cases that a call never answers.
 #[derive(Clone, Copy, PartialEq, Eq, Debug)]
 pub enum PageError {
     NotUtf8,
@@ -49,7 +49,7 @@ pub enum ListKind {
 }
 
 // The tags that only write.
-// Stays an enum of mixed cases, by d: a heading alone has something to say beside its name, and none of the cases is a failure.
+// Stays an enum of mixed cases: a heading alone has something to say beside its name, and none of the cases is a failure.
 #[derive(Clone, Copy, PartialEq, Eq)]
 pub enum Step {
     Heading(usize),
@@ -74,6 +74,7 @@ pub enum Tag {
 }
 
 // What a turn over a page leaves: the rest of the page, and the state.
+// Stays beside sheet's `Read`: that type is of the crate above, and holds something read, where this holds the state of the whole.
 #[derive(Clone, Copy)]
 pub struct Turned<'a> {
     pub rest: &'a [u8],
@@ -81,7 +82,7 @@ pub struct Turned<'a> {
 }
 
 // The number of a refusal, for C and for the program that writes it.
-// Stays a `match`, by d: it says each number beside its name; a cast would take them from the order of the cases.
+// Stays a `match`: numbers at the cases and a cast would be no shorter, and the contract has this table (`error_number`).
 impl From<PageError> for u32 {
     ghost from_gives = { λ e n. n ≡ error_number e };
 

@@ -17,7 +17,7 @@ fn folded(b: u8) -> Option<u8>
 }
 
 // The name at the start of s as a number: each byte is a digit in base 76. Ten digits fit.
-// Stays a number for a name, by b: a match on the bytes in lower case took 1.36 to 1.40 times the instructions for each name.
+// Stays a number for a name: a match on the bytes in lower case took 1.36 to 1.40 times the instructions for each name.
 fn key(s: &[u8]) -> Option<u64>
     ensures { result ≡ key (name_of s.now) }
 {
@@ -35,7 +35,7 @@ fn key(s: &[u8]) -> Option<u64>
 }
 
 // What the name at the start of s says. Each number is the key of the name beside it, so that a name is compared with all of them at once.
-// Stays a `match`, by d: its arms are values, and a table of them would be searched by hand.
+// Stays a `match`: its arms are values, and a table of them would be searched by hand.
 pub(crate) fn tag_of(s: &[u8]) -> Tag
     ensures { result ≡ says (name_of s.now) }
 {

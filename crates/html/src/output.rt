@@ -1,5 +1,5 @@
 // The written part of the lent output: bytes more and spaces fewer at its end, and what it ends with.
-// Stay a buffer and how much of it is written, by b and d: with both in a struct that is lent, text took 1.04 to 1.09 times the instructions,
+// A buffer and how much of it is written: with both in a struct that is lent, text took 1.04 to 1.09 times the instructions,
 // and each function owes a second clause, that the struct still holds the same buffer.
 ghost use Rattle.std.specs.Prelude.{◌≡◌, ◌+◌, ◌≤◌, ◌<◌, length, take, replicate, false};
 ghost use mathlib.Core.List.{◌∷◌, reverse_aux};
@@ -12,6 +12,8 @@ ghost use Rattle.html.specs.Pen.{AboveAscii};
 ghost use Rattle.html.specs.Struct.{last_first, out_of, with_space};
 
 // How many of the written bytes are left without the spaces at their end.
+// Stays beside markdown's `end_without`: this one says what is left from the last byte on, as the state of the output does, and neither crate uses
+// the other.
 pub(crate) fn unspaced(written: &[u8]) -> usize
     ensures bytes { last_first (take result written.now) ≡ drop_while (is " ") (last_first written.now) }
     ensures bound { result ≤ length written.now }
@@ -78,7 +80,8 @@ pub(crate) fn put_char(out: &mut [u8], n: usize, c: u32) -> usize
     n + k
 }
 
-// The character above ASCII at i of raw more: its bytes as they stand there. The first of them says how many there are.
+// The character above ASCII at i of raw more: its bytes as they stand there, so that none is made from a code again. The first of
+// them says how many there are.
 pub(crate) fn copy_char(out: &mut [u8], n: usize, raw: &[u8], i: usize) -> usize
     requires { (n + length (utf8 (code_at raw.now i)) ≤ length out.old) × AboveAscii raw.now i }
     ensures { out_of result out.new ≡ code_at raw.now i ∷ out_of n out.old }

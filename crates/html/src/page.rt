@@ -107,7 +107,7 @@ fn text_len(page: &[u8]) -> usize
 }
 
 // All turns, until the page or the room for notes is used up.
-// Stays a `while`, by d: a turn starts where the last one ended, so no `for` goes through the page.
+// Stays a `while`: a turn starts where the last one ended, so no `for` goes through the page.
 pub(crate) fn convert(out: &mut [u8], html: &[u8]) -> Result<Converter, TooManyLists>
     requires { (2 * length html.now + 16384 ≤ length out.old) × Scalars (chars html.now) }
     ensures out_after { tagged result out.new ≡ loop 0 (chars html.now) new }

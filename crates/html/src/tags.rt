@@ -1,4 +1,6 @@
 // What each tag does: `block`, `newline`, `marks` and `tag` of notes.rs.
+// The lent output and `closing` stay two parameters: a struct of both would be made for each tag and taken apart in each step.
+// How much room a step needs (`self.len + n ≤ ..`) is its own number, so that each contract says it.
 ghost use Rattle.std.specs.Prelude.{◌≡◌, ℕ, ◌+◌, ◌^◌, ◌≤◌, ◌<◌, min, length};
 ghost use mathlib.Core.List.{List, ◌∷◌, tail};
 ghost use Rattle.html.specs.State.{block, newline, marks, list_changed, item, tag, with_lists, heading, pre, br, li, tr, cell, code};
@@ -11,7 +13,7 @@ use crate::{Converter, ListKind, Step, Tag, TooManyLists};
 
 impl ListKind {
     // The number that such a list starts with.
-    // Stays 0 for a list without numbers, by d: the state has the number of a list's next item so, for notes.rs too.
+    // Stays 0 for a list without numbers: the state has the number of a list's next item so, for notes.rs too.
     fn first(self) -> u16
         ensures { result ≡ first_number self }
     {
@@ -33,7 +35,7 @@ impl Converter {
         self
     }
 
-    // Stays beside `block`, by d: the two call different functions, and a generic one would take the function and its definition as parameters.
+    // Stays beside `block`: the two call different functions, and a generic one would take the function and its definition as parameters.
     pub(crate) fn newline(mut self, out: &mut [u8]) -> Self
         requires { self.len + 1 ≤ length out.old }
         ensures { state_of result out.new ≡ newline (state_of self out.old) }
@@ -209,7 +211,7 @@ impl Converter {
     }
 
     // A tag that only writes.
-    // Stays a `match`, by d: each arm is one step with arguments of its own, so a table of steps would need one more function for each.
+    // Stays a `match`: each arm is one step with arguments of its own, so a table of steps would need one more function for each.
     fn step(self, out: &mut [u8], step: Step, closing: bool) -> Self
         requires { TagRoom self out.old }
         ensures { state_of result out.new ≡ tag (step_means step) closing (state_of self out.old) }
@@ -230,7 +232,7 @@ impl Converter {
     }
 
     // A tag's step.
-    // Stays a `match`, by d: the three kinds of tag take different arguments, and one of them alone can refuse.
+    // Stays a `match`: the three kinds of tag take different arguments, and one of them alone can refuse.
     pub(crate) fn tag(
         mut self,
         out: &mut [u8],

@@ -13,7 +13,7 @@ use crate::Converter;
 use crate::output::{copy_char, ends_digit, line_start, push, put_char, spaced};
 
 // Where text is written: the output's length, a pending space, and whether nothing of this text has been written yet.
-// Stay two flags, by d: each is a fact of its own, and no value stands beside it.
+// Two flags: each is a fact of its own, and no value stands beside it.
 #[derive(Clone, Copy)]
 pub struct Pen {
     pub len: usize,
@@ -22,15 +22,16 @@ pub struct Pen {
 }
 
 // A character of text, and where the next one starts.
-// Stays beside `Inked`, by d: both have an offset behind what was read, and a type for the other half would say no more than the two names.
+// Stays beside `Inked`: both have an offset behind what was read, and a type for the other half would say no more than the two names.
 #[derive(Clone, Copy)]
 pub struct Piece {
     pub code: u32,
     pub next: usize,
 }
 
-// The character above ASCII at i. The text is UTF-8, so the first byte says how many there are.
-// The text and an offset stay apart here and below, by d: the loops count the offset in the text, and a slice for each character would have to be
+// The character above ASCII at i. The text is UTF-8, so the first byte says how many there are, and none is tested, as `text::code_at` does.
+// Bytes widen by `as`: with `u32::from` about ten answers below would cite that a byte and its number are the same.
+// The text and an offset stay apart here and below: the loops count the offset in the text, and a slice for each character would have to be
 // tied to it again.
 fn above_ascii(raw: &[u8], i: usize) -> Piece
     requires { AboveAscii raw.now i }
@@ -85,7 +86,7 @@ fn unescaped(raw: &[u8], i: usize) -> Piece
     above_ascii(raw, i)
 }
 
-// An ASCII character that is written as it is behind another one.
+// An ASCII character that is written as it is behind another one. Its spaces are written out: with `Blank` of text the proof at the return did not close.
 fn plain(b: u8, pre: bool) -> bool
     ensures { result ≡ plain pre b }
 {
@@ -211,7 +212,7 @@ pub struct Inked {
 
 // The characters from i on, behind one that is written, up to the next `&`. Nothing here is at the start of a line or of the text, so that few
 // tests are left for each.
-// Stays a `while`, by d: the next character starts one to four bytes on, so no `for` goes from byte to byte.
+// Stays a `while`: the next character starts one to four bytes on, so no `for` goes from byte to byte.
 fn run(pen: Pen, out: &mut [u8], raw: &[u8], from: usize, pre: bool) -> Inked
     requires from_in_bounds { (from ≤ length raw.now) × (Scalars (chars (drop from raw.now)) × (pen.len + pending pen.space + 2 * (length raw.now - from) < length out.old)) }
     requires behind { Behind pre pen out.old }
@@ -252,8 +253,9 @@ fn run(pen: Pen, out: &mut [u8], raw: &[u8], from: usize, pre: bool) -> Inked
     Inked { pen: p, next: i }
 }
 
-// The characters of a text, one after the other.
-// Stays a `while`, by d: a turn goes on where `run` or the spaces end.
+// The characters of a text, one after the other. That the text is UTF-8 (`Scalars`) is a premise here, in `text` and in `words`: each hands the same
+// slice on, and a struct of it would be made and taken apart for that alone.
+// Stays a `while`: a turn goes on where `run` or the spaces end.
 fn ink(pen: Pen, out: &mut [u8], raw: &[u8], pre: bool) -> Pen
     requires { (pen.len + 2 + 2 * length raw.now ≤ length out.old) × Scalars (chars raw.now) }
     ensures { (s : State) → s.pre ≡ pre → pen_state s result out.new ≡ put_all pen.first (unescape 0 (chars raw.now)) (pen_state s pen out.old) }

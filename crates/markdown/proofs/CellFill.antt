@@ -4,7 +4,7 @@ use Prim.Native.Nat.{ℕ, suc, ◌+◌, ◌*◌, ◌-◌, ◌≤◌, ◌<◌}
 use mathlib.Core.Bool.{Bool, true, false, and-true as and_true_right}
 use mathlib.Core.List.{List, [], ◌∷◌, ◌++◌, append_assoc, append-nil}
 use mathlib.Core.Logic.{⊎_elim}
-use mathlib.Core.Path.{◌≡◌, refl, sym, ap, ◌∙◌, subst}
+use mathlib.Core.Path.{◌≡◌, sym, ap, ◌∙◌, subst}
 use borrow.Author.Tests.{eq-eqb, eqb-true}
 use lib.Dec.{eqb}
 use native.Mathlib.Omega.{arith}
@@ -70,10 +70,6 @@ pub record Filling (work₀ work : List ℕ) (a b at i k : ℕ) : Type 0 where
   pub room : k ≤ at + 4 * (i - a)
 
 module _ (work₀ : List ℕ) (a b at : ℕ) where
-  pub filling_none : a ≤ b → Filling work₀ work₀ a b at a at
-  filling_none h =
-      record { text = rw (part_none work₀ at); same = refl; size = refl; low = omega arith; high = h; start = omega arith; room = omega arith }
-
   module _ (work : List ℕ) (i k : ℕ) (v : Filling work₀ work a b at i k) (m : b ≤ at) (fits : at + 4 * (b - a) ≤ length work₀) where
     same_part : (j : ℕ) → between work j b ≡ between work₀ j b
     same_part j = part_below work work₀ at j b v.same m
@@ -155,13 +151,6 @@ module _ (work₀ : List ℕ) (a b at : ℕ) where
 
         size : (n m : ℕ) → o ≡ Some n → o ≡ Some m → m ≡ n
         size n m f g = cc
-
-        pub bar_in : (n : ℕ) → o ≡ Some n → (0 < n) × (i + n ≤ b)
-        bar_in n f =
-            ⊎_elim
-            (λ h. omega (arith, size n 3 f (is_three h), spaced_in h))
-            (λ h. ⊎_elim (λ g. omega (arith, size n 1 f (is_one h g))) (λ g. let z = is_none h g in cc) (decide (eqb (get_or work i 0) 124)))
-            (decide (starts " | " (between work i b)))
 
         pub filling_dot : (n : ℕ) (work₁ : List ℕ) → o ≡ Some n → work₁ ≡ sets work k dot_bytes → Filling work₀ work₁ a b at (i + n) (k + 4)
         filling_dot n work₁ z f =

@@ -25,7 +25,8 @@ use Rattle.text.specs.Part.{between}
 use Rattle.markdown.specs.Parts.{text_of}
 use Rattle.markdown.specs.Cells.{RowIs, RowMade}
 use Rattle.markdown.specs.Shape.{part_text, Trimmed, Titled, mark, MarkerAt}
-use Rattle.markdown.specs.State.{plain_after, item_after, span_start, continued_after, continued_out, ItemAt, LastIs, Holds, Safe, grown, Given, Steps, ends, starts_with_text, SafeItem, SafeLast, item_continued, continues}
+use Rattle.markdown.specs.State.{plain_after, item_after, span_start, continued_after, continued_out, ItemAt, LastIs, Holds, Safe}
+use Rattle.markdown.specs.State.{grown, Given, Steps, ends, starts_with_text, SafeItem, SafeLast, item_continued, continues}
 use Rattle.text.specs.declared.Part.{Part}
 use Rattle.markdown.specs.declared.shape.Title.{Title}
 use Rattle.markdown.specs.declared.shape.Marker.{Marker}

@@ -4,23 +4,20 @@ use Prim.Native.Nat.{ℕ, ◌+◌, ◌-◌, ◌≤◌, ◌<◌}
 use mathlib.Core.Bool.{Bool, true, false}
 use mathlib.Core.List.{List, [], ◌∷◌, ◌++◌, append_assoc}
 use mathlib.Core.Path.{◌≡◌, refl, sym, ap, ◌∙◌}
-use native.Mathlib.Nat.{add-zero}
 use native.Mathlib.Omega.{arith}
-use lib.ListN.{length, get_or, take, drop, set, length-set, drop_of_length-le}
-use lib.Seq.{sets, length-sets, get_or-take, get_or-drop, take-set-le}
+use lib.ListN.{length, take}
+use lib.Seq.{sets, length-sets}
 use Rattle.text.specs.Words.{is_empty}
 use Rattle.text.specs.Utf8.{chars}
 use Rattle.text.proofs.Laws.{chars_append}
 use Rattle.text.proofs.AsciiLaws.{chars_ascii}
-use Rattle.records.specs.Blocks.{Block}
-use Rattle.records.proofs.Stores.{sets_next}
 use Rattle.markdown.specs.Blocks.{Reader, joined, paragraph}
 use Rattle.text.specs.Part.{between, Inside}
-use Rattle.markdown.specs.Parts.{lent, copied as copied_at, text_of}
+use Rattle.markdown.specs.Parts.{copied as copied_at, text_of}
 use Rattle.markdown.specs.State.{Owned, Placed, Safe, grown, Given, Steps, starts_with_text}
 use Rattle.markdown.specs.declared.lines.Text.{Text}
 use Rattle.markdown.specs.declared.writer.State.{State}
-use Rattle.markdown.proofs.PartLaws.{part_none, part_length}
+use Rattle.markdown.proofs.PartLaws.{part_none}
 use Rattle.markdown.proofs.RunLaws.{empty_chars, not_empty}
 use Rattle.markdown.proofs.CellFill.{sets_part, sets_below, part_below}
 use Rattle.markdown.proofs.StateLaws.{placed, given_small, safe_inside, safe_long, text_length, text_none}
@@ -46,16 +43,6 @@ module _ (md work : List ℕ) (s : State) (copied : Bool) (from to : ℕ) (g : G
   -- ---- a new paragraph
   placed_safe : (work₁ : List ℕ) (t : Text) → length work₁ ≡ length work → t.part.start ≤ t.part.end → Placed t.copied n t.part.start t.part.end → Safe md work₁ (placed s t)
   placed_safe work₁ t e o p = let u = g.safe in record { small = u.small; room = omega (arith, u.room); order = o; place = p; last = u.last }
-
-  pub open_part : copied ≡ false → (out : List ℕ)
-      → Steps md work work out out s (placed s (record { copied = copied; part = record { start = from; end = to } })) 0 (to - from) (starts_with_text (chars T))
-  open_part e out =
-      record {
-        holds = λ out₀ q v. record { stored = v.stored; end = v.end; last = v.last; paragraph = refl };
-        safe = placed_safe work (record { copied = copied; part = record { start = from; end = to } }) refl g.order (rw e g.bound);
-        grows = omega arith;
-        short = omega arith;
-      }
 
   pub open_copied : (work₁ : List ℕ) → copied ≡ true → work₁ ≡ sets work n (text_of md work true from to) → (out : List ℕ)
       → Steps md work work₁ out out s (placed s (copied_at n (n + (to - from)))) 0 (to - from) (starts_with_text (chars T))

@@ -62,16 +62,14 @@ unfolding text_of
 holds_kept md work work₁ out₀ out q s u e v =
     record { stored = v.stored; end = v.end; last = v.last; paragraph = v.paragraph ∙ ap chars (go s.text.copied u.place) }
   where
-    go : (c : Bool) → Placed c (length md) s.text.part.start s.text.part.end → between (source c md work) s.text.part.start s.text.part.end ≡ between (source c md work₁) s.text.part.start s.text.part.end
+    go : (c : Bool) → Placed c (length md) s.text.part.start s.text.part.end
+        → between (source c md work) s.text.part.start s.text.part.end ≡ between (source c md work₁) s.text.part.start s.text.part.end
     go true p = rw p.0 (ap (take (s.text.part.end - length md)) (sym e))
     go false p = refl
 
 module _ (md work₀ work out₀ out : List ℕ) (i : ℕ) (s : State) (v : Reading md work₀ work out₀ out i s) where
   abbrev S : List ℕ
   S = cleaned 0 (drop i md)
-
-  pub reading_room : i < length md → (i ≤ length md) × (length md ≤ length work)
-  reading_room h = (omega arith, omega (arith, v.safe.room))
 
   line_scalars : Scalars (chars (until 10 S)) × Scalars (chars (since 10 S))
   line_scalars =
@@ -137,9 +135,6 @@ module _ (md work₀ work out₀ out : List ℕ) (i : ℕ) (s : State) (v : Read
         work_size = v.work_size;
         out_size = v.out_size;
       }
-
-  pub reading_low : s.at ≤ 300000000000
-  reading_low = omega (arith, v.low, v.bound, v.safe.small)
 
   -- the end
   pub reading_end : (out₁ : List ℕ) (r : State) → is_utf8 md ≡ true → length md ≤ i → Steps md work work out out₁ s r 393221 0 ends

@@ -9,7 +9,7 @@ use lib.Dec.{eqb}
 use lib.ListN.{length, get_or}
 use Rattle.text.specs.Chars.{is_space}
 use Rattle.text.specs.Utf8.{Scalars, chars}
-use Rattle.text.specs.Trim.{trim, start_of}
+use Rattle.text.specs.Trim.{trim}
 use Rattle.records.specs.Blocks.{Item}
 use Rattle.spans.specs.Spans.{spans}
 use Rattle.markdown.specs.Blocks.{Reader, list_marker, heading, added, read_text, read_line}
@@ -69,9 +69,6 @@ module _ (md work : List ℕ) (s : State) (l : Text) (g : LineGiven md work s l)
         subst (λ (x : List ℕ). Scalars (chars x)) words_text
         (subst Scalars (sym words) (scalars_trim is_space (chars text) (subst (λ (x : List ℕ). Scalars (chars x)) (sym t) g.scalars)))
 
-    pub words_start : (w.start ≡ w.end → ⊥) → (w.start ≡ start_of text) × (w.start < length text)
-    words_start n = (omega (arith, v.start, ap start_of (part_all text)), omega (arith, v.order, v.high))
-
     -- a step that does what the line's shape says
     module _ (work₁ out out₁ : List ℕ) (r : State) where
       abbrev Read : Type 0
@@ -91,7 +88,8 @@ module _ (md work : List ℕ) (s : State) (l : Text) (g : LineGiven md work s l)
         some = omega (arith, v.order)
 
         pub step_hash : get_or text w.start 0 ≡ 35
-            → Steps md work work₁ out out₁ s r 800000 (l.part.start + w.end - (l.part.start + w.start)) (heading (chars (text_of md work l.copied (l.part.start + w.start) (l.part.start + w.end)))) → Read
+            → Steps md work work₁ out out₁ s r 800000 (l.part.start + w.end - (l.part.start + w.start))
+            (heading (chars (text_of md work l.copied (l.part.start + w.start) (l.part.start + w.end)))) → Read
         step_hash e a =
             step_line _ 800000 (l.part.start + w.end - (l.part.start + w.start))
             (λ q. line_hash text w.start w.end words some v.high e q ∙ ap (λ (x : List ℕ). heading (chars x) q) words_text)

@@ -60,9 +60,6 @@ pub record Copying (s : List ℕ) (start have : ℕ) (work₀ work : List ℕ) (
   pub short : k + start ≤ j + have
 
 module _ (s : List ℕ) (start have : ℕ) (work₀ : List ℕ) where
-  pub copying_none : start ≤ length s → Copying s start have work₀ work₀ start have
-  copying_none l = record { bytes = refl; left = refl; kept = refl; size = refl; bound = l; low = omega arith; short = omega arith }
-
   module _ (work : List ℕ) (j k : ℕ) (v : Copying s start have work₀ work j k) where
     abbrev ended : Line
     ended = record { text = copied 0 k; next = j + 1 }

@@ -26,17 +26,6 @@ abbrev pub marks : ℕ → Bool
 marks = matches "-*_"
 
 -- ---- tests in another order
-pub three : (a b c : Bool) → (a || b) || c ≡ a || (b || (c || false))
-three true b c = refl
-three false true c = refl
-three false false c = sym (or-false c)
-
-pub six : (a b c d e f : Bool) → (((a || (b || (c || false))) || d) || e) || f ≡ a || (b || (c || (d || (e || (f || false)))))
-six true b c d e f = refl
-six false true c d e f = refl
-six false false true d e f = refl
-six false false false d e f = three d e f
-
 -- ---- the loop
 ascii_of : (s : List ℕ) → all ruled s ≡ true → chars s ≡ s
 ascii_of [] e = chars_nil

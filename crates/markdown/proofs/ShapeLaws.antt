@@ -23,9 +23,8 @@ use Rattle.text.proofs.RunLaws.{run_take, run_all, run_le, run_split}
 use Rattle.text.proofs.Lists.{drop_next}
 use Rattle.records.specs.Blocks.{Heading, Paragraph, Item}
 use Rattle.spans.specs.Spans.{spans}
-use Rattle.spans.proofs.Marks.{starts_byte}
 use Rattle.markdown.specs.Blocks.{is_rule, marked, marker_at, list_marker, row, Reader, reader, flush, added, heading, paragraph, continuation, read_text, read_line}
-use Rattle.text.specs.Part.{between, Inside}
+use Rattle.text.specs.Part.{between}
 use Rattle.markdown.specs.Shape.{marker, part_text, Trimmed, Titled, mark, MarkerAt}
 use Rattle.text.specs.declared.Part.{Part}
 use Rattle.markdown.specs.declared.shape.Marker.{Marker}
@@ -58,9 +57,6 @@ module _ (t : List ℕ) (level : ℕ) (e : level ≡ length (take_while (λ (x :
   title_other h r = heading_eq r ∙ rw h
 
   module _ (h : starts_with (32 ∷ []) (drop level t) ≡ true) where
-    pub title_inside : Inside t level (length t)
-    title_inside = record { order = omega (arith, starts_room (32 ∷ []) t level (omega arith) h); bound = omega arith }
-
     pub title_is : (l : ℕ) (g : Part) → level ≤ 6 → Trimmed t level (length t) g → l ≡ min level 3 → Titled t (record { level = l; text = g })
     title_is l g m v q =
         record {
@@ -72,26 +68,6 @@ module _ (t : List ℕ) (level : ℕ) (e : level ≡ length (take_while (λ (x :
         }
 
 -- ---- list markers
--- a bullet is one of three bytes with a space after it
-spread : (x y z w : Bool) → ((x || y) || z) && w ≡ ((x && w) || (y && w)) || (z && w)
-spread true y z true = refl
-spread true true true false = refl
-spread true true false false = refl
-spread true false true false = refl
-spread true false false false = refl
-spread false true z true = refl
-spread false true true false = refl
-spread false true false false = refl
-spread false false true w = refl
-spread false false false w = refl
-
-pub bullet_at : (line : List ℕ) (i : ℕ) → i < length line
-    → ((eqb (get_or line i 0) 45 || eqb (get_or line i 0) 42) || eqb (get_or line i 0) 43) && eqb (get_or line (i + 1) 0) 32
-    ≡ starts "- " (drop i line) || starts "* " (drop i line) || starts "+ " (drop i line)
-bullet_at line i l =
-    rw (drop_next line i l, starts_byte line (i + 1) 32 (omega arith))
-    (spread (eqb (get_or line i 0) 45) (eqb (get_or line i 0) 42) (eqb (get_or line i 0) 43) (eqb (get_or line (i + 1) 0) 32))
-
 module _ (line : List ℕ) (at : ℕ) (e : at ≡ start_of line) where
   marker_in : at ≤ length line
   marker_in = omega (arith, start_le line)
@@ -136,8 +112,8 @@ module _ (line : List ℕ) (at : ℕ) (e : at ≡ start_of line) where
           b,
         )
 
-    pub bullet_inside : Inside line (at + 2) (length line)
-    bullet_inside = record { order = bullet_size; bound = omega arith }
+    pub bullet_inside : at + 2 ≤ length line
+    bullet_inside = bullet_size
 
     pub bullet_is : (g : Part) → Trimmed line (at + 2) (length line) g → MarkerAt line (marker at at g)
     bullet_is g v =
@@ -194,8 +170,8 @@ module _ (line : List ℕ) (at : ℕ) (e : at ≡ start_of line) where
       ordinal_other f = marker_eq ∙ ordinal_eq ∙ rw f
 
       module _ (f : starts ". " (drop stop line) ≡ true) where
-        pub ordinal_inside : Inside line (stop + 2) (length line)
-        ordinal_inside = record { order = starts_room (46 ∷ 32 ∷ []) line stop (omega arith) f; bound = omega arith }
+        pub ordinal_inside : stop + 2 ≤ length line
+        ordinal_inside = starts_room (46 ∷ 32 ∷ []) line stop (omega arith) f
 
         mark_some : (ds : List ℕ) → 1 ≤ length ds → mark ds ≡ ds ++ str "."
         mark_some [] h = absurd (omega arith)

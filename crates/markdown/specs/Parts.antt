@@ -4,7 +4,6 @@ use Rattle.std.specs.Prelude.{ℕ, ◌+◌, ◌-◌, ◌≤◌, ◌<◌, Bool, t
 use Rattle.text.specs.Find.{until, since}
 use Rattle.text.specs.Part.{between}
 use Rattle.markdown.specs.Blocks.{cleaned}
-use Rattle.text.specs.declared.Part.{Part}
 use Rattle.markdown.specs.declared.lines.Text.{Text}
 use Rattle.markdown.specs.declared.lines.Line.{Line}
 

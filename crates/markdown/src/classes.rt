@@ -38,11 +38,12 @@ impl ByteClass for Quiet {
     ghost holds = { λ class b. quiet b };
 
     fn has(self, b: u8) -> bool {
-        (b != b'\n') & (b != b'<')
+        !matches!(b, b'\n' | b'<')
     }
 }
 
-// `-`, `*` or `_`.
+// `-`, `*` or `_`. No `matches!`: the blocks of `Ruled` are tested by it, and in `text` one such test by `matches!` (`Blank`) kept the
+// compiler from taking 32 bytes at once.
 pub(crate) fn is_mark(b: u8) -> bool
     ensures { result ≡ matches "-*_" b }
 {

@@ -4,6 +4,7 @@ ghost use Rattle.text.specs.Words.{all};
 ghost use Rattle.text.specs.Chars.{is_digit};
 
 // At most nine digits, and none where the marker is a bullet.
+// No `Option`: a marker of digits has at least one, so that no digits in it would be a second way to say that it is a bullet.
 #[derive(Clone, Copy)]
 pub struct Digits<'a> {
     pub bytes: &'a [u8],

@@ -23,6 +23,7 @@ use crate::reader::{flush, read_line};
 use crate::writer::State;
 
 // Why `blocks` has no records to give: the Markdown is no UTF-8, or too long; the work buffer is too small, or the result.
+// An enum beside the error of `html`: each call refuses for reasons of its own, and one type for both would have cases that a call never answers.
 #[derive(Clone, Copy, PartialEq, Eq, Debug)]
 pub enum BlocksError {
     NotUtf8,
@@ -31,7 +32,7 @@ pub enum BlocksError {
     SmallResult,
 }
 
-// The number of a refusal, for C.
+// The number of a refusal, for C. A table here, and none shared with `html`: a result that is too small is 3 there and 6 here.
 impl From<BlocksError> for u32 {
     ghost from_gives = { λ e n. n ≡ error_number e };
 

@@ -9,7 +9,8 @@ use crate::classes::Quiet;
 use text::{Part, past_blocks};
 
 // Where a text stands: a part of the Markdown, or of the work buffer. No enum of the two: each would hold the same part, and most of what is
-// asked of a text is asked of its part.
+// asked of a text is asked of its part. Nor is `copied` an enum of the two sources: each function that asks it asks whether the bytes were
+// copied, by one `if`, and a match would have two arms there and a name more for the same two answers.
 #[derive(Clone, Copy)]
 pub struct Text {
     pub copied: bool,
@@ -23,6 +24,7 @@ pub struct Line {
     pub next: usize,
 }
 
+// `lent` and `copied` take two offsets and no `Part`: their callers have the offsets in hand, and would make the part only to give it away.
 impl Text {
     // A part of the Markdown.
     pub(crate) fn lent(start: usize, end: usize) -> Self
@@ -113,7 +115,7 @@ pub(crate) fn next_line(markdown: &[u8], i: usize, work: &mut [u8]) -> Line
     requires { (i ≤ length markdown.now) × (length markdown.now ≤ length work.old) }
     ensures { LineIs markdown.now i work.old work.new result }
 {
-    let start = past_blocks::<16, Quiet>(markdown, i, Quiet);
+    let start = past_blocks::<16, _>(markdown, i, Quiet);
     for j in start..markdown.len() {
         let b = markdown[j];
         if b == b'\n' {

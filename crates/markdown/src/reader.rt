@@ -14,7 +14,7 @@ ghost use Rattle.markdown.specs.State.{Safe, Given, LineGiven, Owned, Steps, con
 use crate::digits::Digits;
 use crate::lines::{Text, put_text, text_of};
 use crate::rows::put_row;
-use crate::shape::{Marker, heading, is_rule, list_marker, trimmed};
+use crate::shape::{Marker, heading, is_rule, list_marker, trimmed, trimmed_from};
 use crate::writer::{OpenItem, State, continue_item, put_heading, put_item, put_paragraph};
 use text::Part;
 
@@ -197,11 +197,7 @@ pub(crate) fn read_line(md: &[u8], work: &mut [u8], out: &mut [u8], s: State, li
         (λ q. read_line q (chars (text_at md.now work.old line))) }
 {
     let text = text_of(md, work, line);
-    let whole = Part {
-        start: 0,
-        end: text.len(),
-    };
-    let words = trimmed(text, whole);
+    let words = trimmed_from(text, 0);
     let a = words.start;
     if a == words.end {
         return flush(md, work, out, s);

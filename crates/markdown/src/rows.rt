@@ -36,6 +36,7 @@ fn bar_of(s: &[u8]) -> Option<usize>
 }
 
 // Stores the cells of a part of the buffer from `at` on, behind that part, and answers where they end.
+// The buffer comes whole, here and in `put_row`: what is read and what is written stand in it both, and it cannot be lent twice.
 fn put_cells(work: &mut [u8], part: Part, at: usize) -> usize
     requires { (part.start ≤ part.end) × ((part.end ≤ at) × (at + 4 * (part.end - part.start) ≤ length work.old)) }
     ensures { CellsIs work.old work.new part.start part.end at result }

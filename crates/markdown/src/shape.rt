@@ -27,6 +27,18 @@ pub(crate) fn trimmed(s: &[u8], part: Part) -> Part
     }
 }
 
+// The part of a line from n on, without the spaces at its ends.
+pub(crate) fn trimmed_from(line: &[u8], n: usize) -> Part
+    requires { n ≤ length line.now }
+    ensures { Trimmed line.now n (length line.now) result }
+{
+    let rest = Part {
+        start: n,
+        end: line.len(),
+    };
+    trimmed(line, rest)
+}
+
 // Whether from i on all bytes are such. Blocks are tried only from multiples of 32 on, so that an ordinary line costs little:
 // an iterator's step would be one byte or one block, and not either.
 fn all_ruled(line: &[u8], i: usize) -> bool
@@ -53,8 +65,8 @@ pub(crate) fn is_rule(line: &[u8]) -> bool
     if line.len() < 3 {
         return false;
     }
-    for i in 0..line.len() {
-        let b = line[i];
+    for (i, b) in line.iter().enumerate() {
+        let b = *b;
         if is_mark(b) {
             return all_ruled(line, i + 1);
         }
@@ -83,17 +95,13 @@ pub(crate) fn heading(line: &[u8]) -> Option<Title>
     if !text::starts_with(line, level, b" ") {
         return None;
     }
-    let rest = Part {
-        start: level,
-        end: line.len(),
-    };
     Some(Title {
         level: level.min(3),
-        text: trimmed(line, rest),
+        text: trimmed_from(line, level),
     })
 }
 
-// An item: its depth, and where its digits and its text stand in the line.
+// An item: its depth, and where its digits and its text stand in the line. The digits are empty at a bullet, as in `Digits`.
 #[derive(Clone, Copy)]
 pub struct Marker {
     pub depth: usize,
@@ -106,8 +114,7 @@ fn is_bullet(line: &[u8], i: usize) -> bool
     requires { i < length line.now }
     ensures { result ≡ starts "- " (drop i line.now) || starts "* " (drop i line.now) || starts "+ " (drop i line.now) }
 {
-    let b = line[i];
-    ((b == b'-') | (b == b'*') | (b == b'+')) & (text::byte(line, i + 1) == 32)
+    matches!(line[i], b'-' | b'*' | b'+') & (text::byte(line, i + 1) == 32)
 }
 
 // A marker of digits, where the line's text starts.
@@ -130,20 +137,16 @@ fn ordered_marker(line: &[u8], at: usize) -> Option<Marker>
 
 // The marker whose digits stand from `at` to `stop`, with its text somewhere after `from`.
 fn marker_of(line: &[u8], at: usize, stop: usize, from: usize) -> Marker
-    requires { Inside line.now from (length line.now) }
+    requires { from ≤ length line.now }
     ensures { (result ≡ marker at stop result.text) × Trimmed line.now from (length line.now) result.text }
 {
-    let rest = Part {
-        start: from,
-        end: line.len(),
-    };
     Marker {
         depth: at / 2,
         digits: Part {
             start: at,
             end: stop,
         },
-        text: trimmed(line, rest),
+        text: trimmed_from(line, from),
     }
 }
 

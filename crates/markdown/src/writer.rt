@@ -1,5 +1,6 @@
 // The records of blocks, stored where the reader stands. Each writer takes the whole result and an offset, and not what is left of it: an
-// offset may lie past its end, and the head of a block is stored after its spans.
+// offset may lie past its end, and the head of a block is stored after its spans. `s.at ≤ 412316860416` and `length text.now ≤ 1048576` in
+// the contracts say only that the sums fit, and are no invariant of `State`: the bound on the offset grows from step to step.
 ghost use Rattle.std.specs.Prelude.{ℕ, ◌+◌, ◌≤◌, ◌<◌, ◌≡◌, true, List, ◌∷◌, length};
 ghost use Rattle.std.proofs.lemmas.List.Edits.{sets};
 ghost use Rattle.text.specs.Utf8.{chars, size, encode};
@@ -23,6 +24,7 @@ pub struct OpenItem {
 }
 
 // Where the records end; the last block, if it is an item; and the text of the paragraph that is open, empty where none is open.
+// The text is no `Option`: an open paragraph is never empty, so that an empty one in it would be a second way to say that none is open.
 #[derive(Clone, Copy)]
 pub struct State {
     pub at: usize,

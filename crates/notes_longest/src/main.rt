@@ -1,5 +1,5 @@
 // A page from standard input to its Markdown on standard output.
-// Stands in five programs, by a: the merge gate runs each program on one input.
+// The same main in five programs: `rt ci` runs each program on one input.
 #![tactic(auto)]
 
 use std::io;

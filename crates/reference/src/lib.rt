@@ -38,7 +38,8 @@ fn from_str_radix(s: &[u8], radix: u32) -> Option<u32>
     some_digits(s.strip_prefix(b"+").unwrap_or(s), radix)
 }
 
-// The number that a name writes.
+// The number that a name writes. That a name has at most 9 bytes is said here and in the two below, and in no struct: `named` compares the bytes
+// themselves, `reference` makes the one name, and a struct would be taken apart in each.
 fn written(name: &[u8]) -> Option<u32>
     requires { length name.now ≤ 9 }
     ensures { result ≡ value (written name.now) }
@@ -66,6 +67,7 @@ fn number(name: &[u8]) -> Option<u32>
 }
 
 // The character that a name stands for. No `match` on the six: in its last arm, where 18 branches join, the proof knows none of the bytes tested.
+// A table searched by a loop and a chain of `or_else` were not tried: each test stands in the proof with the word that it asks for.
 fn named(name: &[u8]) -> Option<u32>
     requires { length name.now ≤ 9 }
     ensures { result ≡ value (named name.now) }

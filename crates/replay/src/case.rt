@@ -1,9 +1,12 @@
 // A stored case: the letter of what is replayed, four length bytes of the input, four of the answer, the input and the answer. FFFFFF00 + n in place
 // of the answer's length is refusal n.
-ghost use Rattle.std.specs.Prelude.{◌<◌, ⊤, length, IfSome};
+ghost use Rattle.std.specs.Prelude.{◌<◌, length, IfSome};
 
 // From this number on a length is a refusal.
 const REFUSED: u32 = 0xFFFF_FF00;
+
+// What stands for an answer that the file has not whole: no call's refusal.
+const CUT_SHORT: u32 = u32::MAX;
 
 #[derive(Clone, Copy)]
 pub(crate) struct Case<'a> {
@@ -13,42 +16,39 @@ pub(crate) struct Case<'a> {
     pub(crate) answer: Result<&'a [u8], u32>,
 }
 
-// The number of the first four bytes, the lowest first.
+// The number of the first four bytes, the lowest first, with 0 for each that is not there.
 pub(crate) fn word(s: &[u8]) -> u32 {
-    <[u8; 4]>::try_from(text::front(s, 4)).map_or(0, u32::from_le_bytes)
+    let mut bytes = [0; 4];
+    let front = text::front(s, 4);
+    bytes[..front.len()].copy_from_slice(front);
+    u32::from_le_bytes(bytes)
+}
+
+// The answer in front of what follows an input, by its stored length.
+fn stored(behind: &[u8], size: u32) -> Result<&[u8], u32> {
+    if REFUSED <= size {
+        return Err(size - REFUSED);
+    }
+    behind.get(..size as usize).ok_or(CUT_SHORT)
 }
 
 impl<'a> Case<'a> {
     // The case at the front, and what stands behind it; none at the end.
-    pub(crate) fn split_first(data: &'a [u8]) -> Option<(Case<'a>, &'a [u8])>
-        ensures { IfSome result (λ r. length r.1.now < length data.now) }
+    pub(crate) fn split_first(cases: &'a [u8]) -> Option<(Case<'a>, &'a [u8])>
+        ensures { IfSome result (λ r. length r.1.now < length cases.now) }
     {
-        let (letter, rest) = data.split_first()?;
+        let (letter, rest) = cases.split_first()?;
         let size = word(rest) as usize;
         let want = word(text::past(rest, 4));
         let texts = text::past(rest, 8);
         let behind = text::past(texts, size);
-        let input = text::front(texts, size);
-        if REFUSED <= want {
-            let answer = Err(want - REFUSED);
-            return Some((
-                Case {
-                    letter: *letter,
-                    input,
-                    answer,
-                },
-                behind,
-            ));
-        }
-        let stored = text::front(behind, want as usize);
-        Some((
-            Case {
-                letter: *letter,
-                input,
-                answer: Ok(stored),
-            },
-            text::past(behind, want as usize),
-        ))
+        let taken = if want < REFUSED { want as usize } else { 0 };
+        let case = Case {
+            letter: *letter,
+            input: text::front(texts, size),
+            answer: stored(behind, want),
+        };
+        Some((case, text::past(behind, taken)))
     }
 
     // Whether a call answered what is stored: the bytes in the front of its result, or a refusal of this number.

@@ -3,11 +3,9 @@
 use crate::case::Case;
 
 pub(crate) fn agrees(case: Case) -> bool {
-    let Some((size, rest)) = case.input.split_first() else {
-        return false;
-    };
-    let title = text::front(rest, *size as usize);
-    let records = text::past(rest, *size as usize);
+    let (size, rest) = case.input.split_first().unwrap_or((&0, &[]));
+    let title = text::front(rest, usize::from(*size));
+    let records = text::past(rest, usize::from(*size));
     let part = sections::section(records, title);
     match sections::section_at(records, title) {
         Ok(Some(place)) => {

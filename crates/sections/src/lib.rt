@@ -1,6 +1,7 @@
 // Sections: a heading and all blocks up to the next heading of the same or a smaller level, found by the heading's text (document 02, U9).
 // The records are read by the walker's public calls alone, and the proofs stand on its specs and theorems and on those of crate `records`: nothing here
 // uses the walker's inner readers. Each block is read a fixed number of times.
+// Records and title stay two parameters: both are the caller's, and a struct of them would be made by each public call only to be taken apart.
 #![tactic(auto)]
 
 ghost use Rattle.std.specs.Prelude.{◌≡◌};
@@ -116,6 +117,7 @@ pub fn section_at(records: &[u8], title: &[u8]) -> Result<Option<Part>, Broken>
     }
 }
 
+// Where the section stands, and 0 to 0 where there is none: as `section` promises an empty part.
 fn section_range(records: &[u8], title: &[u8]) -> Part
     ensures { result ≡ section_range records.now title.now }
 {

@@ -14,7 +14,8 @@ pub struct Read<'a, T> {
 }
 
 // What follows the tag, where the page begins with it. The library's `strip_prefix` in its place takes 1.3 times as many instructions on short runs,
-// since it compares by a call.
+// since it compares by a call. Here and below that the tag is ASCII is no fact of a type: tags are byte strings written where they are asked for, and
+// each would have to be wrapped.
 pub fn strip<'a>(page: &'a [u8], tag: &[u8]) -> Option<&'a [u8]>
     requires { all is_ascii tag.now ≡ true }
     ensures { Strips tag.now page.now result }

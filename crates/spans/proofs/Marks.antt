@@ -59,21 +59,17 @@ module _ (line : List ℕ) (w : State) (text : List ℕ) where
   unfolding step turned
   escape_last e h = at_step 92 (kept (walk_of w text) 92) e (rw (last h))
 
-  pub star_two : get_or line w.i 0 ≡ 42 → w.i + 1 < length line → get_or line (w.i + 1) 0 ≡ 42
-      → turn_at line w text ≡ turn (flush (walk_of w text)) (at (not w.bold) w.italic []) 1
+  pub star_two : get_or line w.i 0 ≡ 42 → get_or line (w.i + 1) 0 ≡ 42 → turn_at line w text ≡ turn (flush (walk_of w text)) (at (not w.bold) w.italic []) 1
   unfolding step star_step turned
-  star_two e h f =
-      at_step 42 (made (flush (walk_of w text)) (at (not w.bold) w.italic []) 1) e (rw (ahead h, eq-eqb (get_or line (w.i + 1) 0) 42 f))
+  star_two e f =
+      at_step 42 (made (flush (walk_of w text)) (at (not w.bold) w.italic []) 1) e
+      (rw (starts_byte line (w.i + 1) 42 (omega arith), eq-eqb (get_or line (w.i + 1) 0) 42 f))
 
-  pub star_one : get_or line w.i 0 ≡ 42 → w.i + 1 < length line → (get_or line (w.i + 1) 0 ≡ 42 → ⊥)
-      → turn_at line w text ≡ turn (flush (walk_of w text)) (at w.bold (not w.italic) []) 0
+  pub star_one : get_or line w.i 0 ≡ 42 → (get_or line (w.i + 1) 0 ≡ 42 → ⊥) → turn_at line w text ≡ turn (flush (walk_of w text)) (at w.bold (not w.italic) []) 0
   unfolding step star_step turned
-  star_one e h f =
-      at_step 42 (made (flush (walk_of w text)) (at w.bold (not w.italic) []) 0) e (rw (ahead h, ne_eqb (get_or line (w.i + 1) 0) 42 f))
-
-  pub star_last : get_or line w.i 0 ≡ 42 → length line ≤ w.i + 1 → turn_at line w text ≡ turn (flush (walk_of w text)) (at w.bold (not w.italic) []) 0
-  unfolding step star_step turned
-  star_last e h = at_step 42 (made (flush (walk_of w text)) (at w.bold (not w.italic) []) 0) e (rw (last h))
+  star_one e f =
+      at_step 42 (made (flush (walk_of w text)) (at w.bold (not w.italic) []) 0) e
+      (rw (starts_byte line (w.i + 1) 42 (omega arith), ne_eqb (get_or line (w.i + 1) 0) 42 f))
 
   pub tick_none : get_or line w.i 0 ≡ 96 → index (96 ∷ []) (stood line w) ≡ none → turn_at line w text ≡ pushed w text 96 0
   unfolding step code_step turned

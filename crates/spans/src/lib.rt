@@ -7,7 +7,8 @@ ghost use Rattle.records.specs.Format.{span_map, encode_spans};
 ghost use Rattle.spans.specs.Spans.{spans};
 ghost use Rattle.spans.specs.Line.{line_spans};
 ghost use Rattle.spans.specs.Turn.{record_of};
-ghost use Rattle.spans.specs.State.{next_at, link_at, Known, within, head, moved_to, ended_at, push_of, flush_of, code_span, code_of, pend, link_to, link_head, Ready, Does, BangAt, PlainIs, PlainTo, push_all_of, Wrote};
+ghost use Rattle.spans.specs.State.{next_at, link_at, Known, within, head, moved_to, ended_at, push_of, flush_of, code_span};
+ghost use Rattle.spans.specs.State.{code_of, pend, link_to, link_head, Ready, Does, BangAt, PlainIs, PlainTo, push_all_of, Wrote};
 
 use records::writer::{put, put_bytes, put_head, span_map};
 use text::byte;
@@ -29,7 +30,7 @@ struct Seen {
 }
 
 // The next backtick at or after `from`, where code ends. A backslash before it does not protect it.
-// Not inlined: the walk would lose its registers to the search, and a line of escapes take half as long again.
+// Not inlined: the walk would lose its registers to the search, and a line of escapes would take a third more instructions.
 #[inline(never)]
 fn find(s: &[u8], from: usize, seen: &mut Seen) -> Option<usize>
     requires { Known s.now from seen.old }
@@ -119,7 +120,8 @@ pub struct Written {
 
 // The line, the buffer and what the searches have read stay parameters: a struct of them, lent to each method, would not be plainer,
 // since each contract would have to say that the line and the buffer stay the same. The buffer comes whole, with an offset that may lie
-// past its end: a head is stored behind what follows it.
+// past its end: a head is stored behind what follows it. `self.at + self.len < 2 ^ 63` and its like in the contracts say only that the
+// sums fit, and are no facts of a state: each step asks for another bound, and leaves a larger offset or a longer text.
 impl State {
     // The emphasis here, with that around the line.
     fn emphasis(self, around: Emphasis) -> Emphasis
@@ -278,16 +280,7 @@ impl State {
         let j = self.i + 1;
         let f = self.flush(around, out);
         let Self { bold, italic, .. } = self;
-        if line.len() <= j {
-            return f.moved(
-                j,
-                Emphasis {
-                    bold,
-                    italic: !italic,
-                },
-            );
-        }
-        if line[j] != b'*' {
+        if byte(line, j) != 42 {
             return f.moved(
                 j,
                 Emphasis {
@@ -336,6 +329,7 @@ impl State {
 }
 
 // Whether the byte at i is text: no mark, or an exclamation mark without a bracket after it.
+// No `matches!`: with it 800,000 bytes, half of them without marks, take 18,000,000 instructions in place of 14,900,000.
 fn is_plain(line: &[u8], i: usize) -> bool
     requires { i < length line.now }
     ensures { PlainIs line.now i result }

@@ -1,5 +1,5 @@
 // UTF-8 tested 32 bytes at a time: each byte beside the three before it.
-ghost use Rattle.std.specs.Prelude.{◌+◌, ◌≤◌, ◌<◌, ◌≡◌, true, length, drop};
+ghost use Rattle.std.specs.Prelude.{◌+◌, ◌≤◌, ◌<◌, ◌≡◌, true, length, drop, IfSome};
 ghost use Rattle.text.specs.Utf8.{is_utf8};
 ghost use Rattle.text.specs.Beside.{in_place, used, second, fits, AllFit, clear};
 
@@ -59,41 +59,36 @@ fn is_clear(s: &[u8], j: usize) -> bool
     (s[j - 1] < 0xC2) & (s[j - 2] < 0xE0) & (s[j - 3] < 0xF0)
 }
 
-// The last of e, e - 1, e - 2 and e - 3 where no tail is due; e - 4 where there is none.
-fn last_clear(s: &[u8], e: usize) -> usize
+// The last of e, e - 1, e - 2 and e - 3 where no tail is due.
+fn last_clear(s: &[u8], e: usize) -> Option<usize>
     requires { (7 ≤ e) × (e ≤ length s.now) }
-    ensures { ((result ≤ e) × (e ≤ result + 4)) × (e < result + 4 → clear s.now result ≡ true) }
+    ensures { IfSome result (λ j. ((j ≤ e) × (e < j + 4)) × (clear s.now j ≡ true)) }
 {
     for j in (e - 3..=e).rev() {
         if is_clear(s, j) {
-            return j;
+            return Some(j);
         }
     }
-    e - 4
+    None
 }
 
-// An offset up to which whole characters stand from i on, so that s is UTF-8 from i on exactly if it is from there on. It is i where the next 32
-// bytes do not say.
-pub(crate) fn past_block(s: &[u8], i: usize) -> usize
+// An offset up to which whole characters stand from i on, so that s is UTF-8 from i on exactly if it is from there on; none where the next 32 bytes
+// do not say.
+pub(crate) fn past_block(s: &[u8], i: usize) -> Option<usize>
     requires { i ≤ length s.now }
-    ensures { (is_utf8 (drop i s.now) ≡ is_utf8 (drop result s.now)) × ((i ≤ result) × (result ≤ length s.now)) }
+    ensures { IfSome result (λ j. (is_utf8 (drop i s.now) ≡ is_utf8 (drop j s.now)) × ((i < j) × (j ≤ length s.now))) }
 {
     if i < 3 {
-        return i;
+        return None;
     }
     if s.len() - i < 32 {
-        return i;
+        return None;
     }
     if !is_clear(s, i) {
-        return i;
+        return None;
     }
     if !is_fit_block(s, i) {
-        return i;
+        return None;
     }
-    let e = i + 32;
-    let j = last_clear(s, e);
-    if e < j + 4 {
-        return j;
-    }
-    i
+    last_clear(s, i + 32)
 }

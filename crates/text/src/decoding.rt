@@ -7,7 +7,7 @@ use crate::ascii::ascii_blocks;
 use crate::beside::past_block;
 use crate::classes::within;
 
-// The byte at i, or 0 past the end.
+// The byte at i, or 0 past the end. A number for none here and below: the definitions that callers' contracts are written in have it so.
 pub fn byte(s: &[u8], i: usize) -> u32
     ensures { result ≡ get_or s.now i 0 }
 {
@@ -132,7 +132,7 @@ fn char_size(s: &[u8], i: usize) -> Option<usize>
     four_at(s, i).size()
 }
 
-// The code at i: a character, or 0x110000 and a byte that starts none; 0 at the end.
+// The code at i: a character, or 0x110000 and a byte that starts none; 0 at the end. Numbers, as in the definition, which tells all three by order.
 pub fn code_at(s: &[u8], i: usize) -> u32
     ensures { result ≡ code_at s.now i }
 {
@@ -142,7 +142,7 @@ pub fn code_at(s: &[u8], i: usize) -> u32
     four_at(s, i).code_or_stray()
 }
 
-// How many bytes the character at i has: 1 for a byte that starts none, 0 at the end.
+// How many bytes the character at i has: 1 for a byte that starts none, 0 at the end, as the definition says it and its callers add it.
 pub(crate) fn size_at(s: &[u8], i: usize) -> usize
     ensures { result ≡ size_of (char (drop i s.now)) }
 {
@@ -169,7 +169,8 @@ fn is_utf8_from(s: &[u8], i: usize) -> bool
 
 // Whether all of s is UTF-8. While more than 8 bytes are left, no character is tested for going past the end. Blocks of ASCII are tried only at
 // multiples of 8, so that a short run costs little. No `simdutf8` and no `str::from_utf8`: the one takes half the instructions from 64 bytes on, but
-// both take 112 in place of 58 for 32 bytes of ASCII, and 610 in place of 354 for 40 of Russian, and most texts are short.
+// both take 112 in place of 58 for 32 bytes of ASCII, and 610 in place of 354 for 40 of Russian, and most texts are short. It stays a `while`, as
+// `is_utf8_from` does.
 pub fn is_utf8(s: &[u8]) -> bool
     ensures { result ≡ is_utf8 s.now }
 {
@@ -186,8 +187,7 @@ pub fn is_utf8(s: &[u8]) -> bool
             i += 1;
             continue;
         }
-        let j = past_block(s, i);
-        if j != i {
+        if let Some(j) = past_block(s, i) {
             i = j;
             continue;
         }

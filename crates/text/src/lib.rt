@@ -1,4 +1,6 @@
 // Text as UTF-8 bytes.
+// A text and an offset stay two parameters: blocks are tried at multiples of the text's own offset, and a slice of what is left would lose it.
+// `find` and `is_utf8` were measured so.
 #![tactic(auto)]
 
 mod ascii;

@@ -5,7 +5,7 @@ ghost use Rattle.text.specs.Run.{RunTo};
 ghost use Rattle.text.specs.Utf8.{chars, encode, char, some_size};
 ghost use Rattle.text.specs.Trim.{trim, start_of, end_of, is_blank, wide_space, space_before};
 
-use crate::classes::is_space;
+use crate::classes::{is_space, within};
 use crate::decoding::{byte, is_tail, join};
 use crate::runs::{Blank, ByteClass, past_blocks};
 
@@ -31,10 +31,7 @@ fn wide_space(s: &[u8], i: usize) -> Option<usize>
         let b = byte(s, i + 1);
         return ((b == 0x85) | (b == 0xA0)).then_some(2);
     }
-    if a < 0xE1 {
-        return None;
-    }
-    if 0xE3 < a {
+    if !within(0xE1, 0xE3, a) {
         return None;
     }
     let b = byte(s, i + 1);

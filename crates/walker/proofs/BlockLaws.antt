@@ -14,7 +14,7 @@ use Rattle.text.specs.Part.{Inside}
 use Rattle.text.specs.declared.parts.Part.{Part}
 use Rattle.records.specs.Blocks.{Span, Kind}
 use Rattle.records.specs.Decode.{Parse, failed, parsed, span_at, spans_at, kind_at, count_at, head_at, block_at}
-use Rattle.walker.specs.Readers.{left, rest, ByteIs, EndIs, FieldsIs, CountIs, kind_of, text_in, marker_ended, marker_placed, Found}
+use Rattle.walker.specs.Readers.{left, rest, EndIs, FieldsIs, CountIs, kind_of, text_in, marker_ended, marker_placed, Found}
 use Rattle.walker.specs.declared.cursor.Cursor.{Cursor}
 use Rattle.walker.specs.declared.blocks.Kind as K
 use Rattle.walker.specs.declared.blocks.Kind.TheVariants as KV
@@ -47,11 +47,12 @@ block_whole t {m} h l k c p = rw (h, lt-ltb m 16 l, k, c, p)
 pub same_left : {s : Bor (List ℕ)} (c : Cursor) → c.bytes ≡ s → left c ≡ drop c.at s.now
 same_left c e = rw e
 
--- a cursor goes to d, e, f and g over the map byte, the kind's fields, the span count and the spans
-pub whole : (s : Bor (List ℕ)) (at : ℕ) {m n : ℕ} {k : Fields} {u : Unit {0}} {d e f g : Cursor} → ByteIs (record { bytes = s; at = at }) d (Ok m) → m < 16
-    → FieldsIs (kind_at (m % 8) (left d)) d e (Ok k) → CountIs (count_at (leb 8 m) (left e)) e f (Ok n) → EndIs (spans_at n (left f)) f g (Ok u)
+-- a cursor goes from an offset to d, e, f and g over the map byte, the kind's fields, the span count and the spans
+pub whole : (s : Bor (List ℕ)) (at : ℕ) (d e f g : Cursor) {m n : ℕ} {k : Fields} {u : Unit {0}}
+    → (drop at s.now ≡ m ∷ left d) × ((d.bytes ≡ s) × (d.at ≤ length d.bytes.now)) × (d.at ≡ at + 1) → m < 16
+    → FieldsIs (kind_at (m % 8) (left d)) d.bytes e (Ok k) → CountIs (count_at (leb 8 m) (left e)) e.bytes f (Ok n) → EndIs (spans_at n (left f)) f.bytes g (Ok u)
     → Found s.now at (record { block = record { kind = k.kind; count = n; next = g.at }; marker = k.marker; first = f.at })
-whole s at {m} {n} {k} {u} {d} {e} {f} {g} h l x y z =
+whole s at d e f g {m} {n} {k} {u} h l x y z =
     let at_d : d.bytes ≡ s = h.1.0 in
     let at_e : e.bytes ≡ s = x.1.0 ∙ at_d in
     let at_f : f.bytes ≡ s = y.1.0 ∙ at_e in

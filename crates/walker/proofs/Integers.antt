@@ -1,6 +1,6 @@
 -- Integers of some bytes: what the code makes of them, and that two and four bytes are the decoder's.
 -- Assumes nothing.
-use Prim.Native.Nat.{ℕ, ◌+◌, ◌-◌, ◌*◌, ◌<◌, ◌≤◌}
+use Prim.Native.Nat.{ℕ, ◌+◌, ◌-◌, ◌*◌, ◌≤◌}
 use native.Mathlib.Omega.{arith}
 use mathlib.Core.Path.{◌≡◌, refl, sym, ap, ◌∙◌}
 use mathlib.Core.List.{List, [], ◌∷◌, ◌++◌}
@@ -25,10 +25,10 @@ padded (a ∷ b ∷ c ∷ d ∷ e ∷ f ∷ g ∷ i ∷ []) h = omega arith
 padded (a ∷ b ∷ c ∷ d ∷ e ∷ f ∷ g ∷ i ∷ j ∷ t) h = absurd (omega arith)
 
 -- what is read of a slice into 8 bytes
-pub integer_at : (s : List ℕ) (at k : ℕ) {n : ℕ} {t : List ℕ} → k ≤ 8 → k ≤ length s - at → 0 < k → t ≡ take (at + k - at) (drop at s)
+pub integer_at : (s : List ℕ) (at k : ℕ) {n : ℕ} {t : List ℕ} → k ≤ 8 → at ≤ length s → k ≤ length s - at → t ≡ take (at + k - at) (drop at s)
     → n ≡ from_le_bytes w64 (t ++ drop k (replicate 8 0)) → (integer k (drop at s) ≡ parsed n (drop (at + k) s)) × (at + k ≤ length s)
 unfolding integer part
-integer_at s at k {n} {t} h l o e f =
+integer_at s at k {n} {t} h o l e f =
     let j : at + k - at ≡ k = omega arith in
     let g : t ≡ take k (drop at s) = e ∙ ap (λ (k : ℕ). take k (drop at s)) j in
     let m : length t ≡ k = ap length g ∙ length-take-le k (drop at s) (rw length-drop l) in

@@ -7,24 +7,19 @@ use mathlib.Core.Path.{◌≡◌, refl, sym, ◌∙◌}
 use mathlib.Core.List.{List, ◌∷◌}
 use lib.ListN.{length, drop, length-drop}
 use lib.Seq.{drop-drop, length-take-le}
-use borrow.Author.Tests.{le-leb, lt-leb}
+use lib.Dec.{leb}
 use Rattle.text.specs.Utf8.{size, chars}
 use Rattle.text.specs.Part.{between, Inside}
 use Rattle.text.proofs.Laws.{size_chars}
 use Rattle.records.specs.Blocks.{Span}
-use Rattle.records.specs.Decode.{Parse, ◌▹◌, part, span_at, spans_at, failed, parsed}
+use Rattle.records.specs.Decode.{Parse, ◌▹◌, only, part, span_at, spans_at, failed, parsed}
 use Rattle.records.proofs.Decoded.{not_failed}
 use Rattle.walker.specs.Readers.{rest}
 
 -- n bytes from an offset
-module _ (s : List ℕ) (at n : ℕ) where
-  pub part_short : length s - at < n → part n (drop at s) ≡ failed
-  unfolding part
-  part_short h = rw (length-drop at s, lt-leb _ _ h)
-
-  pub part_is : n ≤ length s - at → part n (drop at s) ≡ parsed (between s at (at + n)) (drop (at + n) s)
-  unfolding part
-  part_is h = rw (length-drop at s, le-leb _ _ h, drop-drop n at s, add-sub_cancel_left at n)
+pub part_at : (s : List ℕ) (at n : ℕ) → part n (drop at s) ≡ only (leb n (length s - at)) (parsed (between s at (at + n)) (drop (at + n) s))
+unfolding part
+part_at s at n = rw (length-drop at s, drop-drop n at s, add-sub_cancel_left at n)
 
 pub between_size : (s : List ℕ) (start end : ℕ) → Inside s start end → size (chars (between s start end)) ≡ end - start
 between_size s start end w =

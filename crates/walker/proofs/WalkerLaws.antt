@@ -19,7 +19,7 @@ use Rattle.walker.specs.Answers.{Answer, at_end, refused, gives, map, level_of, 
 use Rattle.walker.specs.Places.{nowhere, range_or_none, marker_from, marker_range, marker_place, span_from, text_range, text_place, first_answer, here_answer}
 use Rattle.walker.specs.Numbers.{answered, level_in, depth_in, values_in, emphasis_in, here_values}
 use Rattle.walker.specs.declared.cursor.Cursor.{Cursor}
-use Rattle.walker.specs.Readers.{left, SpanIs, span_of, text_in, rest, EndIs, kind_of, marker_placed, Found, BlockIs, NthIs}
+use Rattle.walker.specs.Readers.{left, SpanIs, span_of, text_in, rest, kind_of, marker_placed, Found, BlockIs, NthIs}
 use Rattle.walker.specs.declared.blocks.Broken.{Broken}
 use Rattle.walker.specs.declared.blocks.Kind as K
 use Rattle.walker.specs.declared.blocks.Kind.TheVariants as KV
@@ -122,27 +122,29 @@ pub record Stood (s t : List ℕ) (x : S.Span) : Type 0 where
   pub within : Inside s x.text.start x.text.end
   pub next : x.next ≡ x.text.end
 
-pub stood : {s : Bor (List ℕ)} (c : Cursor) {d : Cursor} {x : S.Span} → c.bytes ≡ s → SpanIs (span_at (left c)) c d (Ok x) → Stood s.now (drop c.at s.now) x
-stood {s} c {d} {x} h (e, (m, l), (o, f, g)) =
-    let at_d : d.bytes ≡ s = m ∙ h in
-    let k : d.at ≤ length s.now = rw at_d at l in
-    let i : span_at (drop c.at s.now) ≡ parsed (span_of s.now x) (drop d.at s.now) = rw (h, at_d) at e in
+pub stood : (s : Bor (List ℕ)) (t : List ℕ) (d : Cursor) {x : S.Span} → SpanIs (span_at t) s d (Ok x) → Stood s.now t x
+stood s t d {x} (e, (m, l), (o, f, g)) =
+    let k : d.at ≤ length s.now = rw m at l in
+    let i : span_at t ≡ parsed (span_of s.now x) (drop d.at s.now) = rw m at e in
     record {
       read = rw g i;
       within = record { order = o; bound = omega arith };
       next = g ∙ sym f;
     }
 
-module _ (s : Bor (List ℕ)) (at : ℕ) where
-  -- a span by its own offset
-  pub here_is : (r : code.Result S.Span Broken) (d : Cursor) → SpanIs (span_at (drop at s.now)) (record { bytes = s; at = at }) d r → here_values r ≡ here_answer s.now at
-  unfolding here_answer
-  here_is (Ok x) d h =
-      let v = stood (record { bytes = s; at = at }) refl h in
-      let l : x.text.end ≤ length s.now = v.within.bound in
-      let n : length s.now - length (drop x.next s.now) ≡ x.next = omega (arith, length-drop x.next s.now, v.next) in
-      rw (v.read, n, text_range_is s.now v.within v.next)
-  here_is (Err e) d h = rw h
+-- a span by its own offset
+pub here_is : (s : Bor (List ℕ)) (at : ℕ) (d : Cursor) (r : code.Result S.Span Broken) → SpanIs (span_at (drop at s.now)) s d r → here_values r ≡ here_answer s.now at
+unfolding here_answer
+here_is s at d (Ok x) h =
+    let v = stood s (drop at s.now) d h in
+    let l : x.text.end ≤ length s.now = v.within.bound in
+    let n : length s.now - length (drop x.next s.now) ≡ x.next = omega (arith, length-drop x.next s.now, v.next) in
+    rw (v.read, n, text_range_is s.now v.within v.next)
+here_is s at d (Err e) h = rw h
+
+pub here_past : (s : List ℕ) (at : ℕ) → length s < at → refused 7 ≡ here_answer s at
+unfolding here_answer span_at
+here_past s at h = let l : length s ≤ at = omega arith in rw (drop_of_length-le s l)
 
 -- Span n, where n spans were passed over
 pub record Split (xs : List Span) (n : ℕ) (t q : List ℕ) : Type 0 where
@@ -259,14 +261,34 @@ module _ (s : List ℕ) (at n : ℕ) where
   span_is (Ok None) (e, _) = sym (ap (map emphasis_of) e)
   span_is (Err b) (e, _) = sym (ap (map emphasis_of) e)
 
--- after n spans that a cursor passed over
-module _ {s : Bor (List ℕ)} (at n : ℕ) {w : Whole} (f : Found s.now at w) (l : n < w.block.count) {d : Cursor} {u : Unit {0}}
-    (x : EndIs (spans_at n (drop w.first s.now)) (record { bytes = s; at = w.first }) d (Ok u)) where
+-- after n spans that a cursor passed over, up to d
+module _ {s : Bor (List ℕ)} (at n : ℕ) {w : Whole} (f : Found s.now at w) (l : n < w.block.count) (d : Cursor)
+    (x : (rest (spans_at n (drop w.first s.now)) ≡ parsed tt (left d)) × ((d.bytes ≡ s) × (d.at ≤ length d.bytes.now)) × Unit {0}) where
   passed : rest (spans_at n (drop w.first s.now)) ≡ parsed tt (drop d.at s.now)
   passed = x.0 ∙ ap (parsed tt) (same_left d x.1.0)
 
   pub then_wrong : {e : Broken} → span_at (left d) ≡ failed → NthIs s.now at n (Err e)
   then_wrong y = nth_wrong s.now at n f l d.at passed (ap span_at (sym (same_left d x.1.0)) ∙ y)
 
-  pub then_is : {d' : Cursor} {z : S.Span} → SpanIs (span_at (left d)) d d' (Ok z) → NthIs s.now at n (Ok (Some z))
-  then_is y = nth_is s.now at n f l d.at passed (stood d x.1.0 y)
+  pub then_is : (d' : Cursor) {z : S.Span} → SpanIs (span_at (left d)) d.bytes d' (Ok z) → NthIs s.now at n (Ok (Some z))
+  then_is d' {z} y = nth_is s.now at n f l d.at passed (stood s (drop d.at s.now) d' (rw x.1.0 at y))
+
+-- where no span is answered there is no text
+pub text_none : (s : List ℕ) (at n : ℕ) {r : code.Result (code.Option S.Span) Broken} → NthIs s at n r → ((x : S.Span) → r ≡ Ok (Some x) → ⊥)
+    → nowhere ≡ text_place s at n
+text_none s at n {r} h other = by_case r h other
+  where
+    by_case : (q : code.Result (code.Option S.Span) Broken) → NthIs s at n q → ((x : S.Span) → q ≡ Ok (Some x) → ⊥) → nowhere ≡ text_place s at n
+    by_case (Ok (Some x)) g absent = absurd (absent x refl)
+    by_case (Ok None) g absent = sym g.1
+    by_case (Err e) g absent = sym g.1
+
+-- a block that is no item has no marker
+pub marker_none : (s : List ℕ) (at : ℕ) {w : Whole} → Found s at w → ((d : ℕ) → w.block.kind ≡ KV.Item d → ⊥) → nowhere ≡ marker_place s at
+unfolding marker_place
+marker_none s at {w} f other = rw (found_is s at f) (by_kind w.block.kind w.marker other)
+  where
+    by_kind : (k : K.Kind) (m : Part) → ((d : ℕ) → k ≡ KV.Item d → ⊥) → nowhere ≡ marker_range at (kind_of s k m)
+    by_kind (KV.Heading l) m absent = refl
+    by_kind KV.Paragraph m absent = refl
+    by_kind (KV.Item d) m absent = absurd (absent d refl)

@@ -1,4 +1,4 @@
--- Document 01's number and values for each case of the walker's answers ("Where each call says no": 7).
+-- The number and values for each case of the walker's answers ("Where each call says no": 7).
 -- Assumes nothing.
 use Rattle.std.specs.Prelude.{ℕ, Some, None, Ok, Err}
 use Rattle.std.specs.Prelude as code

@@ -2,6 +2,7 @@
 -- Assumes nothing.
 use Rattle.std.specs.Prelude.{ℕ, ◌+◌, ◌*◌, ◌/◌, ◌%◌, ◌<◌, ◌≤◌, ◌≡◌, List, [], ◌∷◌, length, drop, eqb, Some, None, Ok, Err}
 use Rattle.std.specs.Prelude as code
+use Rattle.std.specs.Borrow.{Bor}
 use Rattle.text.specs.Part.{between, Inside}
 use Rattle.text.specs.Utf8.{chars}
 use Rattle.text.specs.declared.parts.Part.{Part}
@@ -22,17 +23,17 @@ abbrev pub left : Cursor → List ℕ
 left c = drop c.at c.bytes.now
 
 -- the same bytes, and an offset within them
-abbrev pub Moved : Cursor → Cursor → Type 0
-Moved c d = (d.bytes ≡ c.bytes) × (d.at ≤ length d.bytes.now)
+abbrev pub Moved : Bor (List ℕ) → Cursor → Type 0
+Moved b d = (d.bytes ≡ b) × (d.at ≤ length d.bytes.now)
 
 -- the value of what was read, and where its parts stand
-abbrev pub Reads : {A V : Type 0} → (V → A) → (V → Type 0) → Parse A → Cursor → Cursor → code.Result V Broken → Type 0
-Reads value placed p c d (Ok v) = (p ≡ parsed (value v) (left d)) × Moved c d × placed v
-Reads value placed p c d (Err e) = p ≡ failed
+abbrev pub Reads : {A V : Type 0} → (V → A) → (V → Type 0) → Parse A → Bor (List ℕ) → Cursor → code.Result V Broken → Type 0
+Reads value placed p b d (Ok v) = (p ≡ parsed (value v) (left d)) × Moved b d × placed v
+Reads value placed p b d (Err e) = p ≡ failed
 
 -- a byte
 abbrev pub ByteIs : Cursor → Cursor → code.Result ℕ Broken → Type 0
-ByteIs c d (Ok b) = (left c ≡ b ∷ left d) × Moved c d × (d.at ≡ c.at + 1)
+ByteIs c d (Ok b) = (left c ≡ b ∷ left d) × Moved c.bytes d × (d.at ≡ c.at + 1)
 ByteIs c d (Err e) = left c ≡ []
 
 -- an integer of k bytes, the lowest first
@@ -43,18 +44,18 @@ worth (b ∷ s) = b + 256 * worth s
 unfoldable pub integer : ℕ → List ℕ → Parse ℕ
 integer k s = part k s ▹ λ t r. parsed (worth t) r
 
-abbrev pub CountIs : Parse ℕ → Cursor → Cursor → code.Result ℕ Broken → Type 0
-CountIs p c d r = Reads (λ n. n) (λ n. Unit {0}) p c d r
+abbrev pub CountIs : Parse ℕ → Bor (List ℕ) → Cursor → code.Result ℕ Broken → Type 0
+CountIs p b d r = Reads (λ n. n) (λ n. Unit {0}) p b d r
 
 abbrev pub NumberIs : ℕ → Cursor → Cursor → code.Result ℕ Broken → Type 0
-NumberIs k c d r = CountIs (integer k (left c)) c d r
+NumberIs k c d r = CountIs (integer k (left c)) c.bytes d r
 
 -- a text, by the offsets of its bytes
 abbrev pub text_in : List ℕ → Part → List ℕ
 text_in s p = chars (between s p.start p.end)
 
-abbrev pub TextIs : Parse (List ℕ) → Cursor → Cursor → code.Result Part Broken → Type 0
-TextIs p c d r = Reads (text_in c.bytes.now) (λ t. (t.start ≤ t.end) × (t.end ≡ d.at)) p c d r
+abbrev pub TextIs : Parse (List ℕ) → Bor (List ℕ) → Cursor → code.Result Part Broken → Type 0
+TextIs p b d r = Reads (text_in b.now) (λ t. (t.start ≤ t.end) × (t.end ≡ d.at)) p b d r
 
 -- a span
 abbrev pub span_of : List ℕ → S.Span → Span
@@ -68,16 +69,16 @@ span_with m text =
 abbrev pub span_placed : Cursor → S.Span → Type 0
 span_placed d x = (x.text.start ≤ x.text.end) × (x.text.end ≡ d.at) × (x.next ≡ d.at)
 
-abbrev pub SpanIs : Parse Span → Cursor → Cursor → code.Result S.Span Broken → Type 0
-SpanIs p c d r = Reads (span_of c.bytes.now) (span_placed d) p c d r
+abbrev pub SpanIs : Parse Span → Bor (List ℕ) → Cursor → code.Result S.Span Broken → Type 0
+SpanIs p b d r = Reads (span_of b.now) (span_placed d) p b d r
 
 -- where a reading ends, whatever was read
 abbrev pub rest : {A : Type 0} → Parse A → Parse (Unit {0})
 rest failed = failed
 rest (parsed a r) = parsed tt r
 
-abbrev pub EndIs : {A : Type 0} → Parse A → Cursor → Cursor → code.Result (Unit {0}) Broken → Type 0
-EndIs p c d r = Reads (λ u. tt) (λ u. Unit {0}) (rest p) c d r
+abbrev pub EndIs : {A : Type 0} → Parse A → Bor (List ℕ) → Cursor → code.Result (Unit {0}) Broken → Type 0
+EndIs p b d r = Reads (λ u. tt) (λ u. Unit {0}) (rest p) b d r
 
 -- the fields of a kind, of which a marker is the last
 abbrev pub kind_of : List ℕ → K.Kind → Part → Kind
@@ -90,8 +91,8 @@ marker_ended next (KV.Heading l) m = m ≡ nowhere
 marker_ended next KV.Paragraph m = m ≡ nowhere
 marker_ended next (KV.Item d) m = (m.start ≤ m.end) × (m.end ≡ next)
 
-abbrev pub FieldsIs : Parse Kind → Cursor → Cursor → code.Result Fields Broken → Type 0
-FieldsIs p c d r = Reads (λ f. kind_of c.bytes.now f.kind f.marker) (λ f. marker_ended d.at f.kind f.marker) p c d r
+abbrev pub FieldsIs : Parse Kind → Bor (List ℕ) → Cursor → code.Result Fields Broken → Type 0
+FieldsIs p b d r = Reads (λ f. kind_of b.now f.kind f.marker) (λ f. marker_ended d.at f.kind f.marker) p b d r
 
 -- a marker's place, in a block at an offset
 abbrev pub marker_placed : List ℕ → ℕ → K.Kind → Part → Type 0

@@ -3,7 +3,7 @@ ghost use Rattle.std.specs.Prelude.{◌≡◌};
 
 use text::Part;
 
-// No well-formed block or span stands at the offset. Document 01's number for it is 7.
+// No well-formed block or span stands at the offset. The number of that refusal is 7.
 #[derive(Clone, Copy, PartialEq, Eq, Debug)]
 pub struct Broken;
 
@@ -15,6 +15,7 @@ impl From<Broken> for u32 {
     }
 }
 
+// What a block is. Some kinds have a number of their own, and none of them is a failure.
 #[derive(Clone, Copy, PartialEq, Eq, Debug)]
 pub enum Kind {
     Heading { level: usize },

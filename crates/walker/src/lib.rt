@@ -1,6 +1,6 @@
 // The walker: what stands at an offset of lent records (crate `records`). Numbers and texts come from separate calls; a text is a part
-// of the records, and empty where there is none. `blocks` has what is found, `reader` reads one block, by `cursor` its
-// bytes and integers, and `markers` tests a marker.
+// of the records, and empty where there is none. Each call takes the records and an offset, as C's calls do; `Walker` is the struct of
+// both. `blocks` has what is found, `reader` reads one block, by `cursor` its bytes and integers, and `markers` tests a marker.
 #![tactic(auto)]
 
 ghost use Rattle.std.specs.Prelude.{◌≡◌};
@@ -29,7 +29,8 @@ pub fn block_at(records: &[u8], at: usize) -> Result<Option<Block>, Broken>
     Ok(block_read(records, at)?.map(|whole| whole.block))
 }
 
-// Whether well-formed blocks, and nothing else, stand from an offset on up to the end of the records.
+// Whether well-formed blocks, and nothing else, stand from an offset on up to the end of the records. No `while let`: the end and a refusal leave the
+// loop with different answers.
 pub fn is_whole(records: &[u8], from: usize) -> bool
     ensures { result ≡ is_whole (blocks_from records.now from) }
 {
@@ -118,10 +119,12 @@ pub fn first_at(records: &[u8], at: usize) -> Result<Option<usize>, Broken>
 }
 
 // A span by its own offset.
-#[tactic(auto, using(crate::proofs::WalkerLaws::here_is))]
 pub fn here_at(records: &[u8], at: usize) -> Result<Span, Broken>
     ensures { here_values result ≡ here_answer records.now at }
 {
+    if records.len() < at {
+        return Err(Broken);
+    }
     let mut cursor = Cursor { bytes: records, at };
     cursor.span()
 }

@@ -9,7 +9,7 @@ use crate::cursor::Cursor;
 use crate::markers::is_marker;
 use text::Part;
 
-// Where a text stands that is not there.
+// Where a text stands that is not there: an empty part, as the public calls promise it and C is given it.
 pub(crate) const NOWHERE: Part = Part { start: 0, end: 0 };
 
 // The span whose map byte is m, with its text's place. The next span starts where the text ends.
@@ -37,10 +37,10 @@ pub(crate) struct Fields {
 
 impl<'a> Cursor<'a> {
     // A span's text, which is not empty: its length and its bytes.
-    #[tactic(auto, using(std::proofs::lemmas::Bool::Decides::nat_tests, crate::proofs::Integers::u32_is, crate::proofs::Spans::part_short, crate::proofs::Spans::part_is), unfolding(records::specs::Decode::text_at))]
+    #[tactic(auto, using(std::proofs::lemmas::Bool::Decides::nat_tests, crate::proofs::Integers::u32_is, crate::proofs::Spans::part_at), unfolding(records::specs::Decode::text_at))]
     #[inline(always)]
     fn text(&mut self) -> Result<Part, Broken>
-        ensures { TextIs (text_at (left self.old)) self.old self.new result }
+        ensures { TextIs (text_at (left self.old)) self.old.bytes self.new result }
     {
         let size = self.number::<4>()?;
         if size < 1 {
@@ -61,7 +61,7 @@ impl<'a> Cursor<'a> {
     #[tactic(auto, using(std::proofs::lemmas::Bool::Decides::nat_tests, text::proofs::Laws::chars_nil), unfolding(records::specs::Decode::span_at))]
     #[inline(always)]
     pub(crate) fn span(&mut self) -> Result<Span, Broken>
-        ensures { SpanIs (span_at (left self.old)) self.old self.new result }
+        ensures { SpanIs (span_at (left self.old)) self.old.bytes self.new result }
     {
         let m = self.byte()?;
         if !(4..16).contains(&m) {
@@ -82,8 +82,7 @@ impl<'a> Cursor<'a> {
     #[tactic(auto, using(crate::proofs::Spans::spans_bad, crate::proofs::Spans::spans_next, crate::proofs::Spans::spans_none))]
     #[inline(always)]
     pub(crate) fn spans(&mut self, n: usize) -> Result<(), Broken>
-        requires { self.old.at ≤ length self.old.bytes.now }
-        ensures { EndIs (spans_at n (left self.old)) self.old self.new result }
+        ensures { EndIs (spans_at n (left self.old)) self.old.bytes self.new result }
     {
         for _i in 0..n {
             let _span = self.span()?;
@@ -93,7 +92,7 @@ impl<'a> Cursor<'a> {
 
     #[tactic(auto, using(std::proofs::lemmas::Bool::Decides::nat_tests), unfolding(records::specs::Decode::level_at, records::specs::Decode::only))]
     fn level(&mut self) -> Result<Fields, Broken>
-        ensures { FieldsIs (level_at (left self.old)) self.old self.new result }
+        ensures { FieldsIs (level_at (left self.old)) self.old.bytes self.new result }
     {
         let level = usize::from(self.byte()?);
         if !(1..=3).contains(&level) {
@@ -108,7 +107,7 @@ impl<'a> Cursor<'a> {
     // The marker of an item.
     #[tactic(auto, using(std::proofs::lemmas::Bool::Decides::nat_tests), unfolding(records::specs::Decode::marker_at, records::specs::Decode::part))]
     fn marker(&mut self, depth: usize) -> Result<Fields, Broken>
-        ensures { FieldsIs (marker_at depth (left self.old)) self.old self.new result }
+        ensures { FieldsIs (marker_at depth (left self.old)) self.old.bytes self.new result }
     {
         let size = usize::from(self.byte()?);
         let start = self.at;
@@ -129,7 +128,7 @@ impl<'a> Cursor<'a> {
     // An item whose depth is not 0.
     #[tactic(auto, using(std::proofs::lemmas::Bool::Decides::nat_tests, crate::proofs::Integers::u16_is), unfolding(records::specs::Decode::item_at))]
     fn item(&mut self) -> Result<Fields, Broken>
-        ensures { FieldsIs (item_at (left self.old)) self.old self.new result }
+        ensures { FieldsIs (item_at (left self.old)) self.old.bytes self.new result }
     {
         let depth = self.number::<2>()?;
         if depth < 1 {
@@ -138,11 +137,10 @@ impl<'a> Cursor<'a> {
         self.marker(depth)
     }
 
-    // The fields of the map's bits 0 to 2.
+    // The fields of the map's bits 0 to 2. A match and no table: each kind reads fields of its own.
     #[tactic(auto, using(std::proofs::lemmas::Bool::Decides::nat_tests), unfolding(records::specs::Decode::kind_at))]
     fn kind(&mut self, bits: u8) -> Result<Fields, Broken>
-        requires { self.old.at ≤ length self.old.bytes.now }
-        ensures { FieldsIs (kind_at bits (left self.old)) self.old self.new result }
+        ensures { FieldsIs (kind_at bits (left self.old)) self.old.bytes self.new result }
     {
         match bits {
             0 => Ok(Fields {
@@ -159,8 +157,7 @@ impl<'a> Cursor<'a> {
     // The span count, where the map's bit 3 says that there is one.
     #[tactic(auto, using(std::proofs::lemmas::Bool::Decides::nat_tests, crate::proofs::Integers::u32_is), unfolding(records::specs::Decode::count_at))]
     fn count(&mut self, counted: bool) -> Result<usize, Broken>
-        requires { self.old.at ≤ length self.old.bytes.now }
-        ensures { CountIs (count_at counted (left self.old)) self.old self.new result }
+        ensures { CountIs (count_at counted (left self.old)) self.old.bytes self.new result }
     {
         if !counted {
             return Ok(0);
@@ -181,13 +178,17 @@ pub(crate) struct Whole {
     pub first: usize,
 }
 
-// The block at an offset, or that the records end there.
+// The block at an offset, or that the records end there. One test before a byte is read: with two in a row items take 1.4 per cent more instructions.
 #[tactic(auto, using(std::proofs::lemmas::Bool::Decides::nat_tests, crate::proofs::Spans::rest_failed), unfolding(records::specs::Decode::block_at, records::specs::Decode::head_at))]
 pub(crate) fn block_read(bytes: &[u8], at: usize) -> Result<Option<Whole>, Broken>
     ensures { BlockIs bytes.now at result }
 {
-    if at == bytes.len() {
-        return Ok(None);
+    if bytes.len() <= at {
+        return if at == bytes.len() {
+            Ok(None)
+        } else {
+            Err(Broken)
+        };
     }
     let mut cursor = Cursor { bytes, at };
     let m = cursor.byte()?;

@@ -16,9 +16,6 @@ returns-then-not-is_utf8 c = not_utf8 c.args.markdown.now c.args.work.now c.args
 pub returns-then-work-n : goal.returns-then-work-n
 returns-then-work-n c = small_work c.args.markdown.now c.args.work.now c.args.res.now c.if-n-gt65536.false (sym c.is_utf8.ensures ∙ c.if-not-is_utf8.false) c.if-work-n.true
 
-pub read-end-requires : goal.read-end-requires
-read-end-requires c = (c.if-n-gt65536.false, (sym c.is_utf8.ensures ∙ c.if-not-is_utf8.false, c.if-work-n.false))
-
 pub returns-then-res-end : goal.returns-then-res-end
 returns-then-res-end c =
     let r = c.read-end.ensures in

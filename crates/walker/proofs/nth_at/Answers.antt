@@ -31,7 +31,7 @@ returns-in_err-spans c =
 pub returns-in_err-span : goal.returns-in_err-span
 returns-in_err-span c =
     refused_as _ _ _ _ c.from_residual-in_err-span.ensures.0
-    (λ e. then_wrong _ _ (found (goal.at.returns-in_err-span c).In-Some) c.if-whole-n.false c.in_ok-spans.ensures c.in_err-span.ensures)
+    (λ e. then_wrong _ _ (found (goal.at.returns-in_err-span c).In-Some) c.if-whole-n.false c.spans.new.self c.in_ok-spans.ensures c.in_err-span.ensures)
 
 pub returns : goal.returns
-returns c = then_is _ _ (found (goal.at.returns c).In-Some) c.if-whole-n.false c.in_ok-spans.ensures c.in_ok-span.ensures
+returns c = then_is _ _ (found (goal.at.returns c).In-Some) c.if-whole-n.false c.spans.new.self c.in_ok-spans.ensures c.span.new.self c.in_ok-span.ensures

@@ -1,16 +1,10 @@
 -- `markdown::lines::commented` meets its contract. The loop's invariant: what is stored and what is left make up the line.
 -- Assumes nothing.
 use Rattle.text.proofs.CloseLaws.{end_bounds}
-use Rattle.markdown.proofs.Reading.{copying_none, copied_break, copied_end, copied_comment, copied_other}
+use Rattle.markdown.proofs.Reading.{copied_break, copied_end, copied_comment, copied_other}
 use native.Mathlib.Omega.{arith}
 use mathlib.Core.Path.{sym, ◌∙◌}
 use Rattle.markdown.proofs.lines.commented.Goals as goal
-
-pub loop-j-init : goal.loop-j-init
-loop-j-init c = copying_none _ _ _ _ c.requires.0
-
-pub shape_of-work-then-b-eq10 : goal.shape_of-work-then-b-eq10
-shape_of-work-then-b-eq10 c = c.loop-j.invariant.size
 
 pub returns-then-b-eq10 : goal.returns-then-b-eq10
 returns-then-b-eq10 c = rw c.copied.ensures (copied_break _ _ _ _ _ _ _ c.loop-j.invariant c.loop-j-test.true c.if-b-eq10.true)
@@ -24,22 +18,10 @@ loop-j-smaller-then-stands_at c =
 pub loop-j-preserved-then-stands_at : goal.loop-j-preserved-then-stands_at
 loop-j-preserved-then-stands_at c = copied_comment _ _ _ _ _ _ _ c.loop-j.invariant _ c.loop-j-test.true (sym c.stands_at.ensures ∙ c.if-stands_at.true) c.comment_end-j.ensures
 
-pub bounds-work-k : goal.bounds-work-k
-bounds-work-k c = let v = c.loop-j.invariant in omega (arith, v.short, v.size, c.requires.1.0, c.requires.1.1)
-
-pub overflow_add-k : goal.overflow_add-k
-overflow_add-k c = let v = c.loop-j.invariant in omega (arith, v.short, v.size, c.requires.1.0)
-
 pub loop-j-preserved : goal.loop-j-preserved
 loop-j-preserved c =
     let v = c.loop-j.invariant in
     copied_other _ _ _ _ _ _ _ v c.loop-j-test.true c.if-b-eq10.false (sym c.stands_at.ensures ∙ c.if-stands_at.false) (omega (arith, v.short, c.requires.1.0)) (omega (arith, v.size, c.requires.1.1))
-
-pub overflow_add-result-2 : goal.overflow_add-result-2
-overflow_add-result-2 c = let v = c.loop-j.invariant in omega (arith, v.bound)
-
-pub shape_of-work : goal.shape_of-work
-shape_of-work c = c.loop-j.invariant.size
 
 pub returns : goal.returns
 returns c = rw c.copied-2.ensures (copied_end _ _ _ _ _ _ _ c.loop-j.invariant c.loop-j-test.false)

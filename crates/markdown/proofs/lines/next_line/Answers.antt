@@ -5,47 +5,20 @@ use lib.ListN.{length}
 use native.Mathlib.Omega.{arith}
 use Prim.Native.Nat.{ℕ, ◌+◌}
 use Rattle.markdown.specs.Parts.{lent, LineIs}
-use mathlib.Core.Path.{◌≡◌, refl, sym, ap, subst, ◌∙◌}
+use mathlib.Core.Path.{◌≡◌, refl, sym, subst, ◌∙◌}
 use Rattle.markdown.proofs.lines.next_line.Goals as goal
 
 pub loop-j-init : goal.loop-j-init
 loop-j-init c = (quiet_passed _ _ _ c.requires.0 (c.past_blocks-start.ensures.run c.requires.0), refl)
 
-pub shape_of-work-then-b-eq10 : goal.shape_of-work-then-b-eq10
-shape_of-work-then-b-eq10 c = ap length c.loop-j.invariant.1
-
 pub returns-then-b-eq10 : goal.returns-then-b-eq10
 returns-then-b-eq10 c = rw (c.loop-j.invariant.1, c.lent.ensures) (passed_break _ _ _ c.loop-j.invariant.0 _ c.loop-j-test.true c.if-b-eq10.true)
-
-pub slice_bounds-put_bytes-count : goal.slice_bounds-put_bytes-count
-slice_bounds-put_bytes-count c = c.loop-j.invariant.0.low
-
-pub slice_bounds-put_bytes-start : goal.slice_bounds-put_bytes-start
-slice_bounds-put_bytes-start c = c.loop-j.invariant.0.low
-
-pub slice_bounds-put_bytes-end : goal.slice_bounds-put_bytes-end
-slice_bounds-put_bytes-end c = c.loop-j.invariant.0.bound
-
-pub overflow_sub-j : goal.overflow_sub-j
-overflow_sub-j c = c.loop-j.invariant.0.low
-
-pub commented-requires : goal.commented-requires
-commented-requires c = (c.loop-j.invariant.0.bound, (omega arith, omega (arith, c.put_bytes.auto.out, ap length c.loop-j.invariant.1, c.requires.1)))
-
-pub shape_of-work-then-stands_at : goal.shape_of-work-then-stands_at
-shape_of-work-then-stands_at c = omega (arith, c.commented.auto.work, c.put_bytes.auto.out, ap length c.loop-j.invariant.1)
 
 pub returns-then-stands_at : goal.returns-then-stands_at
 returns-then-stands_at c = passed_comment _ _ _ c.loop-j.invariant.0 _ _ _ _ _ c.requires.1 c.loop-j.invariant.1 c.put_bytes.ensures c.commented.ensures
 
 pub loop-j-preserved : goal.loop-j-preserved
 loop-j-preserved c = (passing_other _ _ _ c.loop-j.invariant.0 c.loop-j-test.true c.if-b-eq10.false (sym c.stands_at.ensures ∙ c.if-stands_at.false), c.loop-j.invariant.1)
-
-pub overflow_add-result-2 : goal.overflow_add-result-2
-overflow_add-result-2 c = omega (arith, c.loop-j.invariant.0.bound)
-
-pub shape_of-work : goal.shape_of-work
-shape_of-work c = ap length c.loop-j.invariant.1
 
 pub returns : goal.returns
 returns c =

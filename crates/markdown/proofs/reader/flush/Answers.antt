@@ -1,6 +1,6 @@
 -- `markdown::flush` meets its contract.
 -- Assumes nothing.
-use Rattle.markdown.proofs.StateLaws.{safe_inside, safe_small, flush_none, flush_text}
+use Rattle.markdown.proofs.StateLaws.{safe_small, flush_none, flush_text}
 use native.Mathlib.Omega.{arith}
 use mathlib.Core.Path.{sym, ◌∙◌}
 use borrow.Author.Tests.{eqb-true, eqb-false}
@@ -8,9 +8,6 @@ use Rattle.markdown.proofs.reader.flush.Goals as goal
 
 pub returns-then-is_empty : goal.returns-then-is_empty
 returns-then-is_empty c = flush_none _ _ _ _ c.requires.0 (eqb-true _ _ (sym c.is_empty.ensures ∙ c.if-is_empty.true))
-
-pub text_of-text-requires : goal.text_of-text-requires
-text_of-text-requires c = safe_inside _ _ c.args.s c.requires.0
 
 pub put_paragraph-p-requires : goal.put_paragraph-p-requires
 put_paragraph-p-requires c =

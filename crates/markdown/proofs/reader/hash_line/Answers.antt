@@ -1,7 +1,6 @@
 -- `markdown::reader::hash_line` meets its contract.
 -- Assumes nothing.
 use Rattle.markdown.proofs.LineSteps.{title_small, title_step, opened_step}
-use Rattle.markdown.proofs.StateLaws.{given_inside}
 use Rattle.markdown.specs.Shape.{Titled}
 use native.Mathlib.Omega.{arith}
 use Rattle.markdown.proofs.reader.hash_line.Goals as goal
@@ -10,21 +9,6 @@ use Rattle.markdown.proofs.reader.hash_line.Goals.{In-Some}
 -- the line is a heading
 titled : (c : In-Some) → Titled c.text_of-line.result.now c.in-Some.title
 titled c = rw c.in-Some.is at c.heading.ensures
-
-pub flush-p-requires : goal.flush-p-requires
-flush-p-requires c = let g = c.requires.0 in (g.safe, g.low)
-
-pub text_of-line-requires : goal.text_of-line-requires
-text_of-line-requires c = given_inside _ _ _ c.args.text.copied _ _ c.requires.0
-
-pub open_paragraph-requires : goal.open_paragraph-requires
-open_paragraph-requires c =
-    let g = c.requires in
-    let a = c.flush-p.ensures in
-    record { safe = a.safe; low = omega (arith, a.grows, g.1); order = g.0.order; bound = g.0.bound }
-
-pub of-requires : goal.of-requires
-of-requires c = (titled (goal.at.of-requires c).In-Some).inside
 
 pub put_heading-requires : goal.put_heading-requires
 put_heading-requires c = let t = titled (goal.at.put_heading-requires c).In-Some in (
@@ -39,7 +23,9 @@ put_heading-requires c = let t = titled (goal.at.put_heading-requires c).In-Some
 )
 
 pub returns-in_default : goal.returns-in_default
-returns-in_default c = opened_step _ _ _ _ _ c.args.s _ _ c.args.text.copied _ _ c.requires.0 c.text_of-line.ensures c.flush-p.ensures _ (rw c.in_default.is at c.heading.ensures) (c.open_paragraph.ensures _)
+returns-in_default c =
+    opened_step _ _ _ _ _ c.args.s _ _ c.args.text.copied _ _ c.requires.0 c.text_of-line.ensures c.flush-p.ensures
+    _ (rw c.in_default.is at c.heading.ensures) (c.open_paragraph.ensures _)
 
 pub returns : goal.returns
 returns c =

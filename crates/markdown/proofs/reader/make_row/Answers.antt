@@ -24,4 +24,6 @@ put_row-end-requires c =
     )
 
 pub returns : goal.returns
-returns c = let r = rw c.len.ensures at c.put_row-end.ensures in row_made _ _ _ c.args.text.copied _ _ c.requires.0.0 c.requires.0.1 c.requires.1.0 c.put_text.ensures _ _ _ r c.put_row-end.auto.work c.trimmed.ensures
+returns c =
+    let r = rw c.len.ensures at c.put_row-end.ensures in
+    row_made _ _ _ c.args.text.copied _ _ c.requires.0.0 c.requires.0.1 c.requires.1.0 c.put_text.ensures _ _ _ r c.put_row-end.auto.work c.trimmed.ensures

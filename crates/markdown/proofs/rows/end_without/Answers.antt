@@ -1,16 +1,12 @@
 -- `markdown::rows::end_without` meets its contract. The loop's invariant: the bytes that are left lose at their end what all lose.
 -- Assumes nothing.
 use Rattle.markdown.proofs.CellFill.{bars_stop, bars_next, bars_none}
-use lib.Seq.{take-length}
 use lib.Dec.{eqb}
 use borrow.Author.Tests.{eq-eqb, ne_eqb}
 use native.Mathlib.Omega.{arith}
 use Prim.Native.Nat.{ℕ, ◌+◌, ◌-◌}
 use mathlib.Core.Path.{◌≡◌}
 use Rattle.markdown.proofs.rows.end_without.Goals as goal
-
-pub loop-last-init : goal.loop-last-init
-loop-last-init c = (rw (take-length c.args.s.now), omega arith)
 
 pub returns-then-s-last : goal.returns-then-s-last
 returns-then-s-last c =

@@ -19,15 +19,6 @@ ended c =
     let h = started (goal.at.After-end_without c).After-run_end in
     omega (arith, c.end_without.ensures.1, part_length c.args.work.now (c.args.part.start + c.run_end.result) c.args.part.end h (omega (arith, p.1.0, p.1.1.0)))
 
-pub slice_bounds-run_end-count : goal.slice_bounds-run_end-count
-slice_bounds-run_end-count c = c.requires.0
-
-pub slice_bounds-run_end-start : goal.slice_bounds-run_end-start
-slice_bounds-run_end-start c = c.requires.0
-
-pub slice_bounds-run_end-end : goal.slice_bounds-run_end-end
-slice_bounds-run_end-end c = let p = c.requires in omega (arith, p.1.0, p.1.1.0)
-
 pub overflow_add-a : goal.overflow_add-a
 overflow_add-a c = omega (arith, started c, c.requires.1.0, c.requires.1.1.0)
 
@@ -37,9 +28,6 @@ slice_bounds-end_without-count c = started c
 pub slice_bounds-end_without-start : goal.slice_bounds-end_without-start
 slice_bounds-end_without-start c = started c
 
-pub slice_bounds-end_without-end : goal.slice_bounds-end_without-end
-slice_bounds-end_without-end c = let p = c.requires in omega (arith, p.1.0, p.1.1.0)
-
 pub overflow_add-b : goal.overflow_add-b
 overflow_add-b c = omega (arith, ended c, c.requires.1.0, c.requires.1.1.0)
 
@@ -48,9 +36,6 @@ put_cells-requires c =
     let h = ended (goal.at.put_cells-requires c).After-end_without in
     let p = c.requires in
     (omega arith, (omega (arith, p.1.0), omega (arith, p.1.1.0)))
-
-pub shape_of-work : goal.shape_of-work
-shape_of-work c = c.put_cells.auto.work
 
 pub returns : goal.returns
 returns c =

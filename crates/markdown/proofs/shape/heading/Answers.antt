@@ -1,6 +1,6 @@
 -- `markdown::shape::heading` meets its contract.
 -- Assumes nothing.
-use Rattle.markdown.proofs.ShapeLaws.{title_long, title_other, title_inside, title_is}
+use Rattle.markdown.proofs.ShapeLaws.{title_long, title_other, title_is}
 use native.Mathlib.Nat.{zero-add}
 use mathlib.Core.Path.{sym, ◌∙◌}
 use Rattle.markdown.proofs.shape.heading.Goals as goal
@@ -11,8 +11,5 @@ returns-then-level-gt6 c = title_long _ _ (c.run_end-level.ensures ∙ zero-add 
 pub returns-then-not-starts_with : goal.returns-then-not-starts_with
 returns-then-not-starts_with c = title_other _ _ (c.run_end-level.ensures ∙ zero-add _) (sym c.starts_with.ensures ∙ c.if-not-starts_with.true)
 
-pub trimmed-requires : goal.trimmed-requires
-trimmed-requires c = title_inside _ _ (c.run_end-level.ensures ∙ zero-add _) (sym c.starts_with.ensures ∙ c.if-not-starts_with.false)
-
 pub returns : goal.returns
-returns c = title_is _ _ (c.run_end-level.ensures ∙ zero-add _) (sym c.starts_with.ensures ∙ c.if-not-starts_with.false) _ _ c.if-level-gt6.false c.trimmed.ensures c.min.ensures
+returns c = title_is _ _ (c.run_end-level.ensures ∙ zero-add _) (sym c.starts_with.ensures ∙ c.if-not-starts_with.false) _ _ c.if-level-gt6.false c.trimmed_from.ensures c.min.ensures

@@ -4,7 +4,7 @@ use Rattle.markdown.proofs.RuleLaws.{ruled, marks}
 use Rattle.text.specs.Words.{all, any}
 use lib.ListN.{length, drop}
 use mathlib.Core.Path.{◌≡◌}
-use Prim.Native.Nat.{◌-◌, ◌≤◌}
+use Prim.Native.Nat.{◌≤◌}
 use Rattle.markdown.proofs.shape.is_rule.Given as goal
 
 abbrev pub invariant-loop-i : goal.invariant-loop-i

@@ -10,7 +10,7 @@ use Rattle.text.proofs.Laws.{Step, no_char, some_char, stuck, scalar_is}
 use Rattle.text.proofs.RunLaws.{at_start, past_one}
 use Rattle.text.proofs.AsciiLaws.{low_ascii, run_to}
 use Rattle.text.proofs.decoding.is_utf8.Goals as goal
-use Rattle.text.proofs.decoding.is_utf8.Goals.{In-Some}
+use Rattle.text.proofs.decoding.is_utf8.Goals.{In-Some-char_size}
 
 pub loop-i-preserved-then-e-i : goal.loop-i-preserved-then-e-i
 loop-i-preserved-then-e-i c = let r = c.ascii_blocks-e.ensures in (c.loop-i.invariant.0 ∙ run_to _ _ _ r, r.high)
@@ -21,18 +21,18 @@ loop-i-preserved-then-s-i-lt128 c =
     let i = c.loop-i.i in
     (c.loop-i.invariant.0 ∙ run_to s i (i + 1) (past_one is_ascii s i i (at_start is_ascii s i (omega arith)) (omega arith) (low_ascii _ c.if-s-i-lt128.true)), omega arith)
 
-pub loop-i-preserved-then-j-i : goal.loop-i-preserved-then-j-i
+pub loop-i-preserved-in-Some : goal.loop-i-preserved-in-Some
 unfolding is_utf8
-loop-i-preserved-then-j-i c = let h = c.past_block-j.ensures in (c.loop-i.invariant.0 ∙ h.0, h.1.1)
+loop-i-preserved-in-Some c = let h = rw c.in-Some.is at c.past_block.ensures in (c.loop-i.invariant.0 ∙ h.0, h.1.1)
 
-pub returns-in_default : goal.returns-in_default
+pub returns-in_default-char_size : goal.returns-in_default-char_size
 unfolding is_utf8
-returns-in_default c = sym (c.loop-i.invariant.0 ∙ stuck c.args.s.now c.loop-i.i (omega arith) (no_char c.args.s.now c.loop-i.i (no_size _ (sym c.char_size.ensures ∙ c.in_default.is))))
+returns-in_default-char_size c = sym (c.loop-i.invariant.0 ∙ stuck c.args.s.now c.loop-i.i (omega arith) (no_char c.args.s.now c.loop-i.i (no_size _ (sym c.char_size.ensures ∙ c.in_default-char_size.is))))
 
 -- the step over a character
-step : (c : In-Some) → (x : _) × Step c.args.s.now c.loop-i.i x c.in-Some.n
+step : (c : In-Some-char_size) → (x : _) × Step c.args.s.now c.loop-i.i x c.in-Some-char_size.n
 step c =
-    let n = size_is _ _ (sym c.char_size.ensures ∙ c.in-Some.is) in
+    let n = size_is _ _ (sym c.char_size.ensures ∙ c.in-Some-char_size.is) in
     some_char _ _ _ n.0 (omega (arith, n.1))
 
 pub overflow_add-i-in-loop-i : goal.overflow_add-i-in-loop-i

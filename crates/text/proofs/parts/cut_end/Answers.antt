@@ -6,7 +6,7 @@ use Rattle.text.proofs.CutLaws.{reach, cut_at, cut_nowhere}
 use Rattle.text.proofs.parts.cut_end.Goals as goal
 
 pub overflow_sub-result : goal.overflow_sub-result
-overflow_sub-result c = reach _ _ _ (sym c.is_split.ensures ∙ c.if-is_split.true)
+overflow_sub-result c = let h = reach _ _ _ (sym c.is_split.ensures ∙ c.if-is_split.true) in omega arith
 
 pub returns-then-is_split : goal.returns-then-is_split
 returns-then-is_split c = cut_at c.args.s.now c.args.n c.loop-k.k (omega arith) (omega arith) c.loop-k.invariant (sym c.is_split.ensures ∙ c.if-is_split.true)

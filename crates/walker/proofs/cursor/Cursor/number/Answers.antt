@@ -8,5 +8,5 @@ use Rattle.walker.proofs.cursor.Cursor.number.Goals as goal
 pub returns : goal.returns
 returns g c =
     let s = c.args.self.now.bytes.now in
-    let (e, l) = integer_at s c.args.self.now.at g.row.N c.requires.fits (omega arith) c.requires.some c.copy_from_slice.ensures.after c.from_le_bytes.ensures in
+    let (e, l) = integer_at s c.args.self.now.at g.row.N c.requires (omega arith) (omega arith) c.copy_from_slice.ensures.after c.from_le_bytes.ensures in
     (e, (refl, l), tt)
