@@ -16,7 +16,7 @@ pub struct Read<'a, T> {
 // What follows the tag, where the page begins with it. The library's `strip_prefix` in its place takes 1.3 times as many instructions on short runs,
 // since it compares by a call. Here and below that the tag is ASCII is no fact of a type: tags are byte strings written where they are asked for, and
 // each would have to be wrapped.
-pub fn strip<'a>(page: &'a [u8], tag: &[u8]) -> Option<&'a [u8]>
+pub(crate) fn strip<'a>(page: &'a [u8], tag: &[u8]) -> Option<&'a [u8]>
     requires { all is_ascii tag.now ≡ true }
     ensures { Strips tag.now page.now result }
 {
@@ -28,7 +28,7 @@ pub fn strip<'a>(page: &'a [u8], tag: &[u8]) -> Option<&'a [u8]>
 }
 
 // The value of a tag, where the page begins with the tag.
-pub fn tagged<'a, T: Copy>(page: &'a [u8], tag: &[u8], value: T) -> Option<Read<'a, T>>
+pub(crate) fn tagged<'a, T: Copy>(page: &'a [u8], tag: &[u8], value: T) -> Option<Read<'a, T>>
     requires { all is_ascii tag.now ≡ true }
     ensures { Says (λ a b. a ≡ b) (valued tag.now value (chars page.now)) result }
 {
@@ -37,7 +37,7 @@ pub fn tagged<'a, T: Copy>(page: &'a [u8], tag: &[u8], value: T) -> Option<Read<
 }
 
 // What follows the byte 10 that the page may begin with.
-pub fn after_newline(page: &[u8]) -> &[u8]
+pub(crate) fn after_newline(page: &[u8]) -> &[u8]
     ensures { chars result.now ≡ nl? (chars page.now) }
 {
     strip(page, b"\n").unwrap_or(page)

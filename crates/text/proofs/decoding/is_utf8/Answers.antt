@@ -27,7 +27,10 @@ loop-i-preserved-in-Some c = let h = rw c.in-Some.is at c.past_block.ensures in 
 
 pub returns-in_default-char_size : goal.returns-in_default-char_size
 unfolding is_utf8
-returns-in_default-char_size c = sym (c.loop-i.invariant.0 ∙ stuck c.args.s.now c.loop-i.i (omega arith) (no_char c.args.s.now c.loop-i.i (no_size _ (sym c.char_size.ensures ∙ c.in_default-char_size.is))))
+returns-in_default-char_size c =
+    let s = c.args.s.now in
+    let i = c.loop-i.i in
+    sym (c.loop-i.invariant.0 ∙ stuck s i (omega arith) (no_char s i (no_size _ (sym c.char_size.ensures ∙ c.in_default-char_size.is))))
 
 -- the step over a character
 step : (c : In-Some-char_size) → (x : _) × Step c.args.s.now c.loop-i.i x c.in-Some-char_size.n

@@ -20,13 +20,7 @@ passed : (c : Then-is_free_block)
 passed c = c.is_free_block.ensures c.if-is_free_block.true
 
 pub returns-then-is_close : goal.returns-then-is_close
-returns-then-is_close c =
-    let inv = c.loop-j.invariant in
-    let h = inv.high in
-    seek_found _ _ _ _ _ inv (omega arith) c.is_close.ensures c.if-is_close.true
+returns-then-is_close c = let h = c.loop-j.invariant.high in seek_found _ _ _ _ _ c.loop-j.invariant (omega arith) c.is_close.ensures c.if-is_close.true
 
 pub loop-j-preserved : goal.loop-j-preserved
-loop-j-preserved c =
-    let inv = c.loop-j.invariant in
-    let h = inv.high in
-    seek_not _ _ _ _ _ inv (omega arith) c.is_close.ensures c.if-is_close.false
+loop-j-preserved c = let h = c.loop-j.invariant.high in seek_not _ _ _ _ _ c.loop-j.invariant (omega arith) c.is_close.ensures c.if-is_close.false

@@ -38,7 +38,8 @@ returns-in_err-memchr c =
     let e = rest_is (goal.at.returns-in_err-memchr c).In_ok-rest in
     let p = c.in-Some.ensures.cases in
     c.from_residual-in_err-memchr.ensures
-    ∙ far_nowhere c.args.s.now c.args.i c.args.b _ _ (p.0 ∙ ap (take 8) e) (p.1 ∙ ap (drop 8) e) (omega (arith, p.2, ap length e)) c.in_default-position_of.ensures c.in_ok-rest.ensures.lookup.0.0 c.in_err-memchr.ensures
+    ∙ far_nowhere c.args.s.now c.args.i c.args.b _ _ (p.0 ∙ ap (take 8) e) (p.1 ∙ ap (drop 8) e) (omega (arith, p.2, ap length e))
+    c.in_default-position_of.ensures c.in_ok-rest.ensures.lookup.0.0 c.in_err-memchr.ensures
 
 pub returns : goal.returns
 returns c =

@@ -43,7 +43,9 @@ returns-then-not-within c =
     (rw c.from-a.ensures at (within_not 0xE1 0xE3 c.from-a.result (sym c.within.ensures ∙ c.if-not-within.true)))))
 
 pub returns-then-not-is_tail : goal.returns-then-not-is_tail
-returns-then-not-is_tail c = sym (ap some_size {y = 0} (three (goal.at.returns-then-not-is_tail c).After-is_tail-2 ∙ rw (sym (tails (goal.at.returns-then-not-is_tail c).After-is_tail-2) ∙ c.if-not-is_tail.true)))
+returns-then-not-is_tail c =
+    let here = (goal.at.returns-then-not-is_tail c).After-is_tail-2 in
+    sym (ap some_size {y = 0} (three here ∙ rw (sym (tails here) ∙ c.if-not-is_tail.true)))
 
 pub returns : goal.returns
 returns c =
