@@ -1,6 +1,7 @@
 //! bench POINTS [FOLDER]: the port and the published Rust on the same inputs in one run, and the port and a plain Rust on records; a table of each on
 //! standard output, and the points of growing sizes as lines `kind series size port rust` (nanoseconds) in the file POINTS.
 //! FOLDER may hold further inputs: files that end in .md are Markdown, the others pages. bench search: see search.rs.
+mod codes;
 mod inputs;
 #[path = "../target/compare/notes.rs"]
 #[allow(dead_code)]
@@ -85,5 +86,7 @@ fn main() {
     let found = series_rows(&mut b);
     println!("\n| records | bytes | port, µs | Rust, µs | port / Rust |\n|---|---|---|---|---|");
     let found = found + &sections::rows();
+    println!("\n| codes | bytes | port, µs | Rust, µs | port / Rust | port, ns a byte |\n|---|---|---|---|---|---|");
+    let found = found + &codes::rows();
     std::fs::write(points, found).unwrap_or_else(|e| stop(format!("{points}: {e}; give a file that can be written")));
 }

@@ -1,4 +1,4 @@
-//! A title's section in plain Rust: one walk over the records, each block tested as the walker tests it.
+//! A title's section and the blocks of codes in plain Rust: one walk over the records, each block tested as the walker tests it.
 use std::str::from_utf8;
 
 struct Reader<'a> {
@@ -30,12 +30,12 @@ impl<'a> Reader<'a> {
         }
     }
     /// A span's text.
-    fn span(&mut self) -> Option<&'a [u8]> {
+    fn span(&mut self) -> Option<&'a str> {
         match self.byte()? {
-            4..=7 => Some(&[]),
+            4..=7 => Some(""),
             8..=15 => {
                 let n = self.number()?;
-                self.take(n).filter(|text| from_utf8(text).is_ok())
+                from_utf8(self.take(n)?).ok()
             }
             _ => None,
         }
@@ -53,16 +53,26 @@ impl<'a> Reader<'a> {
             _ => None,
         }
     }
+    /// How many spans follow.
+    fn count(&mut self, map: u8) -> Option<usize> {
+        if map & 8 == 0 { Some(0) } else { self.number() }
+    }
     /// A block's level, and whether it is a heading with this title.
     fn block(&mut self, title: &[u8]) -> Option<(u8, bool)> {
         let map = self.byte().filter(|map| *map < 16)?;
         let level = self.level(map)?;
         let mut left = (level > 0).then_some(title);
-        for _ in 0..if map & 8 == 0 { 0 } else { self.number()? } {
+        for _ in 0..self.count(map)? {
             let text = self.span()?;
-            left = left.and_then(|title| title.strip_prefix(text));
+            left = left.and_then(|title| title.strip_prefix(text.as_bytes()));
         }
         Some((level, left.is_some_and(<[u8]>::is_empty)))
+    }
+    /// A block's joined text.
+    fn text(&mut self) -> Option<String> {
+        let map = self.byte().filter(|map| *map < 16)?;
+        self.level(map)?;
+        (0..self.count(map)?).map(|_| self.span()).collect()
     }
 }
 
@@ -79,4 +89,19 @@ pub fn section(records: &[u8], title: &[u8]) -> Option<Option<(usize, usize)>> {
         }
     }
     Some(found.map(|(start, _)| (start, end.unwrap_or(records.len()))))
+}
+
+/// How many blocks are read, and for each code the number of the first one that contains it; none where a block that is read is broken.
+pub fn find_codes(records: &[u8], codes: &[&str]) -> Option<(usize, Vec<Option<usize>>)> {
+    let (mut reader, mut visited, mut found) = (Reader { rest: records }, 0, vec![None; codes.len()]);
+    while !reader.rest.is_empty() && found.contains(&None) {
+        let text = reader.text()?;
+        for (code, number) in codes.iter().zip(&mut found) {
+            if number.is_none() && text.contains(code) {
+                *number = Some(visited);
+            }
+        }
+        visited += 1;
+    }
+    Some((visited, found))
 }

@@ -5,8 +5,8 @@ use crate::timing::{calls, least, stop};
 use crate::{plain, port, EFFORT};
 use std::hint::black_box;
 
-const SIZES: [usize; 4] = [1_000, 10_000, 100_000, 1_000_000];
-const RUSSIAN: &str = "Реле теперь срабатывает, когда ток фазы больше уставки. ";
+pub const SIZES: [usize; 4] = [1_000, 10_000, 100_000, 1_000_000];
+pub const RUSSIAN: &str = "Реле теперь срабатывает, когда ток фазы больше уставки. ";
 
 struct Sought {
     title: String,
@@ -42,7 +42,7 @@ fn sought(title: &str, records: Vec<u8>) -> Sought {
     Sought { title: title.to_owned(), records }
 }
 
-fn plain_span(text: &str) -> Span {
+pub fn plain_span(text: &str) -> Span {
     Span { text: text.to_owned(), ..Span::default() }
 }
 
@@ -51,20 +51,28 @@ fn heading(level: u8, text: &str) -> Block {
 }
 
 /// Spans of one letter.
-fn small(count: usize) -> Vec<Span> {
+pub fn small(count: usize) -> Vec<Span> {
     vec![plain_span("a"); count]
 }
 
-fn repeated(size: usize, block: &Block) -> Vec<u8> {
+pub fn repeated(size: usize, block: &Block) -> Vec<u8> {
     let record = oracle::records(std::slice::from_ref(block));
     record.repeat((size / record.len()).max(1))
 }
 
-/// Sections of a release, with blocks before and behind them.
-fn among(size: usize, before: &[Block], behind: &[Block]) -> Sought {
-    let item = |text: &str| Block::Item { depth: 0, marker: "\u{2022}".to_owned(), spans: vec![plain_span("Faster "), Span { bold: true, ..plain_span(text) }] };
+fn item(text: &str) -> Block {
+    Block::Item { depth: 0, marker: "\u{2022}".to_owned(), spans: vec![plain_span("Faster "), Span { bold: true, ..plain_span(text) }] }
+}
+
+/// Sections of a release: a heading, a paragraph and two items each.
+pub fn release(size: usize) -> Vec<u8> {
     let unit = oracle::records(&[heading(2, "Fixes in this release"), Block::Paragraph(vec![plain_span(PROSE)]), item("start"), item("trip times")]);
-    sought("Title", [oracle::records(before), unit.repeat((size / unit.len()).max(1)), oracle::records(behind)].concat())
+    unit.repeat((size / unit.len()).max(1))
+}
+
+/// A release, with blocks before and behind it.
+fn among(size: usize, before: &[Block], behind: &[Block]) -> Sought {
+    sought("Title", [oracle::records(before), release(size), oracle::records(behind)].concat())
 }
 
 fn long(text: &str, size: usize) -> Sought {

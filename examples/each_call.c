@@ -72,6 +72,32 @@ static void sections(void)
     must(s.number == RN_NO_BLOCK && s.found == 0 && s.start == 0 && s.length == 0, "rn_section_at of T in 33 bytes");
 }
 
+/* Whether a code is in this block, and which block the answer says. */
+static int in_block(rn_codes c, size_t code, size_t block)
+{
+    return c.found[code] == 1 && c.blocks[code] == block;
+}
+
+static void codes(void)
+{
+    const uint8_t *bytes = (const uint8_t *)"a bTzz";
+    const size_t lengths[4] = {3, 1, 1, 1}, empty[4] = {4, 1, 1, 0};
+    size_t i;
+    rn_codes c = rn_find_codes(records, 34, bytes, 6, lengths, 4);
+    must(c.number == RN_OK && c.visited == 2 && in_block(c, 0, 1) && in_block(c, 1, 0), "rn_find_codes of a b, T, z, z");
+    for (i = 2; i < RN_CODES_MAX; i++)
+        must(c.found[i] == 0 && c.blocks[i] == 0, "rn_find_codes of a b, T, z, z, the codes that are not there");
+    c = rn_find_codes(records, 33, bytes + 3, 1, lengths + 1, 1);
+    must(c.number == RN_OK && c.visited == 1 && in_block(c, 0, 0), "rn_find_codes of T in 33 bytes");
+    c = rn_find_codes(records, 33, bytes, 4, lengths, 2);
+    must(c.number == RN_NO_BLOCK && c.visited == 0 && c.found[1] == 0 && c.blocks[1] == 0, "rn_find_codes of a b, T in 33 bytes");
+    c = rn_find_codes(records, 34, bytes, 5, lengths, 4);
+    must(c.number == RN_NOT_CODES && c.visited == 0 && c.found[1] == 0, "rn_find_codes of 5 bytes and lengths of 6");
+    must(rn_find_codes(records, 34, bytes, 6, empty, 4).number == RN_NOT_CODES, "rn_find_codes of a code without bytes");
+    c = rn_find_codes(records, 33, bytes, 0, lengths, 0);
+    must(c.number == RN_OK && c.visited == 0 && c.found[0] == 0, "rn_find_codes of no codes");
+}
+
 int main(void)
 {
     must(sizeof page - 1 == 48 && RN_WORK_FOR_PAGE(48) == 16480 && RN_WORK_FOR_MARKDOWN(14) == 84 && RN_RECORDS_MAX(14) == 82, "a size");
@@ -79,5 +105,6 @@ int main(void)
     walk();
     spans();
     sections();
+    codes();
     return 0;
 }

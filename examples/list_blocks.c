@@ -25,6 +25,8 @@ static const char *advice(uint32_t number)
         return "the records do not fit; give the result RN_RECORDS_MAX bytes";
     case RN_NO_BLOCK:
         return "no block stands here, or one is broken; read only what rn_blocks wrote, from 0 and then by next";
+    case RN_NOT_CODES:
+        return "the codes cannot be looked for; give at most 16 of 1 to 32 bytes each, and their lengths";
     default:
         return "a number that release_notes.h does not have; library and header differ";
     }

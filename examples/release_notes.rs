@@ -1,4 +1,5 @@
-//! Safe calls over the C library: a page to Markdown, Markdown to block records, iterators over the records, and their sections.
+//! Safe calls over the C library: a page to Markdown, Markdown to block records, iterators over the records, their sections, and the blocks that
+//! contain type codes.
 //! Compile it as a module and link with libcapi.a (`-L native=crates/capi/out -l static=capi`); include/release_notes.h says what each C
 //! call does. The C calls keep no state, so the functions here may run on any number of threads at once.
 #![allow(dead_code)] // a program seldom needs every call
@@ -11,6 +12,9 @@ pub const PAGE_READ_MAX: usize = 1_048_576;
 pub const RESULT_FOR_PAGE: usize = 32_000;
 /// The longest Markdown that `blocks` takes.
 pub const MARKDOWN_MAX: usize = 65_536;
+/// How many codes `find_codes` takes at most, and the bytes of the longest.
+pub const CODES_MAX: usize = 16;
+pub const CODE_MAX: usize = 32;
 
 /// Why a call said no, with the number that the C calls have for it.
 /// The functions here lend buffers that are long enough, so they never answer `SmallWork`, `SmallResult` and `RecordsTooLong`.
@@ -29,8 +33,11 @@ pub enum Refusal {
     TooLong = 5,
     /// The records do not fit the result.
     RecordsTooLong = 6,
-    /// The offset is past the end of the records, or no well-formed block stands there; of `section`, a block of the records is broken.
+    /// The offset is past the end of the records, or no well-formed block stands there; of `section`, a block of the records is broken; of
+    /// `find_codes`, one that the search comes to.
     NoBlock = 7,
+    /// There are over 16 codes, or one of them has no bytes or over 32.
+    NotCodes = 10,
 }
 
 impl Refusal {
@@ -45,6 +52,7 @@ impl Refusal {
             5 => Err(Refusal::TooLong),
             6 => Err(Refusal::RecordsTooLong),
             7 => Err(Refusal::NoBlock),
+            10 => Err(Refusal::NotCodes),
             _ => unreachable!("the library has no number {number}"),
         }
     }
@@ -61,6 +69,7 @@ impl fmt::Display for Refusal {
             Refusal::TooLong => "the Markdown is over RN_MARKDOWN_MAX bytes; shorten it",
             Refusal::RecordsTooLong => "the records do not fit; give the result RN_RECORDS_MAX bytes",
             Refusal::NoBlock => "no block stands here, or one is broken; read only what rn_blocks wrote, from 0 and then by next",
+            Refusal::NotCodes => "the codes cannot be looked for; give at most 16 of 1 to 32 bytes each, and their lengths",
         })
     }
 }
@@ -116,6 +125,13 @@ mod raw {
         pub start: usize,
         pub length: usize,
     }
+    #[repr(C)]
+    pub struct CodesFound {
+        pub number: u32,
+        pub visited: usize,
+        pub found: [u32; super::CODES_MAX],
+        pub blocks: [usize; super::CODES_MAX],
+    }
     extern "C" {
         pub fn rn_html_to_markdown(page: *const u8, page_len: usize, work: *mut u8, work_len: usize, result: *mut u8, result_len: usize) -> Written;
         pub fn rn_blocks(markdown: *const u8, markdown_len: usize, work: *mut u8, work_len: usize, result: *mut u8, result_len: usize) -> Written;
@@ -125,6 +141,7 @@ mod raw {
         pub fn rn_first_at(records: *const u8, records_len: usize, at: usize) -> FirstAt;
         pub fn rn_here_at(records: *const u8, records_len: usize, span_at: usize) -> HereAt;
         pub fn rn_section_at(records: *const u8, records_len: usize, title: *const u8, title_len: usize) -> SectionAt;
+        pub fn rn_find_codes(records: *const u8, records_len: usize, codes: *const u8, codes_len: usize, lengths: *const usize, lengths_len: usize) -> CodesFound;
     }
 }
 
@@ -292,6 +309,26 @@ pub fn section<'a>(records: &'a [u8], title: &[u8]) -> Result<Option<&'a [u8]>, 
     Ok((section.found == 1).then(|| &records[section.start..section.start + section.length]))
 }
 
+/// Where codes stand.
+#[derive(Clone, Debug, PartialEq, Eq)]
+pub struct Found {
+    /// How many blocks were read.
+    pub visited: usize,
+    /// For each code the number, from 0, of the first block whose text contains it.
+    pub blocks: Vec<Option<usize>>,
+}
+
+/// The first block of each of these codes, in one walk, which ends after the block with which every code is found. A code is bytes, those of its text in
+/// UTF-8. Refuses with `NotCodes`, or with `NoBlock` where the walk comes to a broken block.
+pub fn find_codes(records: &[u8], codes: &[&[u8]]) -> Result<Found, Refusal> {
+    let (bytes, lengths): (Vec<u8>, Vec<usize>) = (codes.concat(), codes.iter().map(|code| code.len()).collect());
+    // SAFETY: each pointer goes with the length of its slice.
+    let found = unsafe { raw::rn_find_codes(records.as_ptr(), records.len(), bytes.as_ptr(), bytes.len(), lengths.as_ptr(), lengths.len()) };
+    Refusal::check(found.number)?;
+    let blocks = found.found.iter().zip(found.blocks).map(|(is_found, block)| (*is_found == 1).then_some(block));
+    Ok(Found { visited: found.visited, blocks: blocks.take(codes.len()).collect() })
+}
+
 #[cfg(test)]
 mod tests {
     use super::*;
@@ -343,7 +380,7 @@ mod tests {
         assert_eq!(html_to_markdown("<ul>".repeat(65).as_bytes()), Err(Refusal::TooManyLists));
         assert!(blocks(&[b'a'; MARKDOWN_MAX]).is_ok());
         assert_eq!(blocks(&[0xff; MARKDOWN_MAX + 1]), Err(Refusal::TooLong));
-        for number in 1..=7 {
+        for number in (1..=7).chain([10]) {
             let refusal = Refusal::check(number).unwrap_err();
             assert_eq!(refusal as u32, number);
             assert!(include_str!("list_blocks.c").contains(&format!("return \"{refusal}\";")));
@@ -401,6 +438,43 @@ mod tests {
         for title in ["A", "B", "none"] {
             assert_eq!(section(&records[..records.len() - 1], title.as_bytes()), Err(Refusal::NoBlock));
         }
+    }
+
+    fn found(visited: usize, blocks: &[Option<usize>]) -> Result<Found, Refusal> {
+        Ok(Found { visited, blocks: blocks.to_vec() })
+    }
+
+    #[test]
+    fn codes() {
+        let records = blocks("# For R7\n\n- R**E**F`615` and R9\n\nR7, R9 \u{b5}\n\nlast".as_bytes()).unwrap();
+        assert_eq!(find_codes(&records, &[b"R7"]), found(1, &[Some(0)]));
+        assert_eq!(find_codes(&records, &[b"REF615", b"R7", b"REF615"]), found(2, &[Some(1), Some(0), Some(1)]));
+        assert_eq!(find_codes(&records, &[b"R9", b"RE615"]), found(4, &[Some(1), None]));
+        assert_eq!(find_codes(&records, &[b"\xc2", b"\xb5", b"615 and"]), found(3, &[Some(2), Some(2), Some(1)]));
+        // No code goes over the border of two blocks, and case counts.
+        assert_eq!(find_codes(&records, &[b"R7R", b"ref615"]), found(4, &[None, None]));
+        assert_eq!(find_codes(&[], &[b"R7"]), found(0, &[None]));
+        assert_eq!(find_codes(&records, &[&b"R7"[..]; 16]), found(1, &[Some(0); 16]));
+    }
+
+    #[test]
+    fn codes_that_are_refused() {
+        let records = blocks(b"R7\n\nR9").unwrap();
+        for codes in [&[&b"R7"[..]; CODES_MAX + 1][..], &[b""], &[b"R7", b""], &[&[b'R'; CODE_MAX + 1]]] {
+            assert_eq!(find_codes(&records, codes), Err(Refusal::NotCodes));
+            assert_eq!(find_codes(b"\x10", codes), Err(Refusal::NotCodes));
+        }
+        assert_eq!(find_codes(&records, &[&[b'R'; CODE_MAX]]), found(2, &[None]));
+    }
+
+    #[test]
+    fn codes_in_broken_records() {
+        let broken = [&blocks(b"R7\n\nR9").unwrap()[..], b"\x10"].concat();
+        assert_eq!(find_codes(&broken, &[]), found(0, &[]));
+        assert_eq!(find_codes(&broken, &[b"R7", b"R9"]), found(2, &[Some(0), Some(1)]));
+        assert_eq!(find_codes(&broken, &[b"R7", b"R8"]), Err(Refusal::NoBlock));
+        assert_eq!(find_codes(&broken[..broken.len() - 2], &[b"R7"]), found(1, &[Some(0)]));
+        assert_eq!(find_codes(&broken[..broken.len() - 2], &[b"R9"]), Err(Refusal::NoBlock));
     }
 
     type Call = unsafe extern "C" fn(*const u8, usize, *mut u8, usize, *mut u8, usize) -> raw::Written;

@@ -1,12 +1,14 @@
 /*
- * Release notes: an HTML page to short Markdown, Markdown to block records, a walker that reads the records, and their sections.
+ * Release notes: an HTML page to short Markdown, Markdown to block records, a walker that reads the records, their sections, and the
+ * blocks that contain a relay's type code.
  *
  * Link with libcapi.a, which `rt lib` in crates/capi writes to its folder out (x86-64 Linux). It needs memcpy and memset, nothing else.
  *
  * What holds for every call:
  * - It allocates nothing and keeps no state: all that it reads and writes is lent by the caller, for that one call.
  * - Any number of threads may call at once, as long as no two calls share a work or result buffer and nobody writes what is being read.
- * - Each pointer is valid for the length that follows it: readable, and writable too for work and result. Nothing beyond is touched.
+ * - Each pointer is valid for the length that follows it, in bytes (that of `lengths` counts its numbers): readable, and writable too for
+ *   work and result. Nothing beyond is touched.
  * - No pointer may be NULL, not even with length 0: pass the address of any object instead.
  * - work and result overlap neither each other nor what is read (page, markdown).
  * - What work and result hold before a call does not matter: they need not be set.
@@ -32,8 +34,10 @@ enum rn_number {
     RN_TOO_MANY_LISTS = 4,   /* the page opens a list inside 64 open ones */
     RN_TOO_LONG = 5,         /* the Markdown is over RN_MARKDOWN_MAX bytes */
     RN_RECORDS_TOO_LONG = 6, /* the records do not fit the block reader's result: RN_RECORDS_MAX */
-    RN_NO_BLOCK = 7          /* the offset is past the end, or no well-formed block stands there (rn_here_at: no well-formed span;
-                                rn_section_at: records broken somewhere) */
+    RN_NO_BLOCK = 7,         /* the offset is past the end, or no well-formed block stands there (rn_here_at: no well-formed span;
+                                rn_section_at: records broken somewhere; rn_find_codes: the search comes to a broken block) */
+    RN_NOT_CODES = 10        /* over RN_CODES_MAX codes, one outside 1 to RN_CODE_MAX bytes, or lengths that do not add up; no call
+                                answers 8 or 9 */
 };
 
 /*
@@ -257,6 +261,46 @@ typedef struct rn_section {
  * Each call reads all the records, in time in proportion to their bytes.
  */
 rn_section rn_section_at(const uint8_t *records, size_t records_length, const uint8_t *title, size_t title_length);
+
+/* How many codes rn_find_codes takes at most, and the bytes of the longest; the shortest has one. Usable as array sizes. */
+#define RN_CODES_MAX 16
+#define RN_CODE_MAX 32
+
+/*
+ * Where several codes stand.
+ *   number     RN_OK, RN_NOT_CODES (tested first, before any record is read), or RN_NO_BLOCK
+ *   visited    how many blocks were read, the last one included
+ *   found[i]   1 if a block contains code i, otherwise 0
+ *   blocks[i]  the number of the first block that contains code i, where the first block of the records has number 0; 0 if none does
+ * Behind the codes, and on a refusal everywhere, found and blocks are 0.
+ */
+typedef struct rn_codes {
+    uint32_t number;
+    size_t visited;
+    uint32_t found[RN_CODES_MAX];
+    size_t blocks[RN_CODES_MAX];
+} rn_codes;
+
+/*
+ * Finds up to 16 codes, such as the type codes of the relays in a station, in one walk over the records: for each code the first block
+ * whose text contains it, where the text of a block is the texts of its spans one after the other, with nothing between them.
+ *
+ *   codes    the bytes of all codes, one code after the other, with nothing between them; read only
+ *   lengths  how many bytes each of them has, so lengths_length is how many codes there are; read only
+ *
+ * A code is bytes, those of a type code in UTF-8, and is looked for as bytes: upper and lower case differ, and one that is no UTF-8 by
+ * itself is taken too. Codes may repeat, and equal ones get equal answers. Each answer is the one that a call with this code alone gives.
+ *
+ * The walk ends after the block with which every code has been found, otherwise at the end of the records. Without codes nothing is
+ * read: RN_OK, and visited is 0. A broken block that the walk comes to is refused with RN_NO_BLOCK, also where some codes were found
+ * before it; one behind the end of the walk is not seen and changes nothing.
+ *
+ * number, the first that applies: 10 over RN_CODES_MAX codes, a code without bytes or with more than RN_CODE_MAX, or lengths that do not
+ * add up to codes_length; 7 a broken block. Nothing is written. The time is in proportion to the bytes that are read, whatever the codes
+ * and the texts are.
+ */
+rn_codes rn_find_codes(const uint8_t *records, size_t records_length, const uint8_t *codes, size_t codes_length, const size_t *lengths,
+                       size_t lengths_length);
 
 #ifdef __cplusplus
 }

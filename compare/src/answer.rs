@@ -12,10 +12,12 @@ const FILL: u8 = 0xaa;
 /// No longer buffer is lent.
 const LONGEST: usize = 1 << 26;
 
-/// What the calls are lent, to read and to write, and the answer.
+/// What the calls are lent, to read and to write, and the answer; `sought` has a title, or each code in turn.
 struct Driver {
     read: Vec<u8>,
-    title: Vec<u8>,
+    sought: Vec<u8>,
+    codes: Vec<u8>,
+    lengths: Vec<usize>,
     work: Vec<u8>,
     result: Vec<u8>,
     answer: Answer,
@@ -30,7 +32,7 @@ fn fill(buffer: &mut Vec<u8>, length: &[u8]) -> Option<()> {
 
 impl Driver {
     fn new() -> Driver {
-        Driver { read: Vec::new(), title: Vec::new(), work: Vec::new(), result: Vec::new(), answer: Answer::new() }
+        Driver { read: Vec::new(), sought: Vec::new(), codes: Vec::new(), lengths: Vec::new(), work: Vec::new(), result: Vec::new(), answer: Answer::new() }
     }
 
     /// The answer to a request, with byte 10.
@@ -52,6 +54,7 @@ impl Driver {
             [b"sheet1", page] => self.sheet1(page),
             [b"walk", records] => self.walk(records),
             [b"u9", title, records] => self.u9(title, records),
+            [b"u10", records, ref codes @ ..] => self.u10(records, codes),
             _ => None,
         }
     }
@@ -147,10 +150,31 @@ impl Driver {
     }
 
     fn u9(&mut self, title: &[u8], records: &[u8]) -> Option<()> {
-        bytes(title, &mut self.title)?;
+        bytes(title, &mut self.sought)?;
         bytes(records, &mut self.read)?;
-        let section = port::section_at(&self.read, &self.title);
+        let section = port::section_at(&self.read, &self.sought);
         self.answer.numbers(&[section.number as usize, section.found as usize, section.start, section.start + section.length]);
+        Some(())
+    }
+
+    /// A word for each code: its block's number or `none`; no words on a refusal.
+    fn u10(&mut self, records: &[u8], codes: &[&[u8]]) -> Option<()> {
+        bytes(records, &mut self.read)?;
+        self.codes.clear();
+        self.lengths.clear();
+        for code in codes {
+            bytes(code, &mut self.sought)?;
+            self.codes.extend(&self.sought);
+            self.lengths.push(self.sought.len());
+        }
+        let found = port::find_codes(&self.read, &self.codes, &self.lengths);
+        self.answer.numbers(&[found.number as usize, found.visited]);
+        for k in 0..if found.number == 0 { codes.len() } else { 0 } {
+            match found.found[k] {
+                0 => self.answer.text(" none"),
+                _ => self.answer.numbers(&[found.blocks[k]]),
+            }
+        }
         Some(())
     }
 }

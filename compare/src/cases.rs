@@ -1,9 +1,10 @@
 //! What the replay program is given. Sheets and near-sheets with what document 01 says of them: the reader of sheet.rs says yes or no, and the
-//! Rust gives the Markdown and the records. Titles and records with the sections that sections.rs finds. And the Rust's answers to the pages and Markdown
-//! texts of tools/replay-data.
+//! Rust gives the Markdown and the records. Titles and records with the sections that sections.rs finds. Codes and records with what codes.rs
+//! finds. And the Rust's answers to the pages and Markdown texts of tools/replay-data.
 use crate::random::Random;
+use crate::searches::{self, Search};
 use crate::sections::{self, Answer};
-use crate::{inputs, oracle, outlines, sheet, sheets};
+use crate::{codes, inputs, oracle, outlines, sheet, sheets};
 use std::io::{Read, Write};
 
 fn answer(page: &[u8]) -> Result<Vec<u8>, u32> {
@@ -44,6 +45,25 @@ fn section_case(title: &[u8], records: &[u8]) -> Vec<u8> {
     case(b'T', &input, answer)
 }
 
+/// How many codes there are in one byte, the length of each in one byte, how many bytes the codes have in two, the codes and the records; the answer is
+/// how many blocks were visited and each code's block in four bytes, FFFFFFFF where it has none.
+fn code_case(search: &Search) -> Vec<u8> {
+    let byte = |n: usize| u8::try_from(n).expect("a case has at most 255 codes, each of at most 255 bytes; take a shorter one");
+    let lengths = search.lengths.iter().map(|n| byte(*n));
+    let mut input: Vec<u8> = std::iter::once(byte(search.lengths.len())).chain(lengths).collect();
+    input.extend(u16::try_from(search.codes.len()).expect("17 codes of at most 255 bytes fit two bytes").to_le_bytes());
+    input.extend([&search.codes[..], &search.records].concat());
+    let answer = match codes::find(&search.records, &search.codes, &search.lengths) {
+        codes::Answer::NotCodes => Err(0xFFFF_FF0A),
+        codes::Answer::Broken => Err(0xFFFF_FF07),
+        codes::Answer::Found { visited, blocks } => {
+            let numbers = blocks.into_iter().map(|block| block.map_or(u32::MAX, |number| number as u32));
+            Ok(std::iter::once(visited as u32).chain(numbers).flat_map(u32::to_le_bytes).collect())
+        }
+    };
+    case(b'C', &input, answer)
+}
+
 fn write_sheets(out: &mut Vec<u8>) {
     let mut r = Random::new(1);
     for k in 0..180 {
@@ -72,10 +92,29 @@ fn write_sections(out: &mut Vec<u8>) {
     }
 }
 
+/// Each set of short codes in one to four short blocks, and random ones, in whole and in broken records; the replay program reads at most 17 lengths.
+fn write_codes(out: &mut Vec<u8>) {
+    let mut r = Random::new(3);
+    for codes in searches::SHORT_CODES {
+        let records = (0..1 + r.below(4)).flat_map(|_| r.pick(&searches::SHORT).bytes()).collect();
+        out.extend(code_case(&searches::of_codes(records, codes)));
+    }
+    let mut left = 76;
+    while left > 0 {
+        let blocks = if left % 6 == 0 { oracle::blocks(&outlines::markdown(&mut r)) } else { searches::blocks(&mut r) };
+        let search = if left % 3 == 0 { searches::broken(&mut r, &blocks) } else { searches::within(&mut r, &blocks) };
+        if search.lengths.len() <= 17 && search.lengths.iter().all(|n| *n < 256) {
+            out.extend(code_case(&search));
+            left -= 1;
+        }
+    }
+}
+
 pub fn write() {
     let mut out = Vec::new();
     write_sheets(&mut out);
     write_sections(&mut out);
+    write_codes(&mut out);
     std::io::stdout().write_all(&out).expect("standard output cannot be written; send it to a file");
 }
 

@@ -1,7 +1,9 @@
 //! One input to both sides. Each function answers whether they agree; both buffers are filled with a pattern first, so that "unchanged" is seen.
+use crate::codes;
 use crate::oracle::{self, Block, Span};
-use crate::port::{self, BlockAt, FirstAt, HereAt, SectionAt, SpanAt, Tested, Written, END, HEADING, ITEM, PARAGRAPH};
+use crate::port::{self, BlockAt, CodesFound, FirstAt, HereAt, SectionAt, SpanAt, Tested, Written, END, HEADING, ITEM, PARAGRAPH};
 use crate::random::Random;
+use crate::searches::Search;
 use crate::sections::{self, Answer};
 
 const FILL: u8 = 0xA5;
@@ -137,6 +139,25 @@ pub fn section(title: &[u8], records: &[u8]) -> bool {
             answer == SectionAt { number: 0, found: 1, start, length: end - start } && walks(&part, &blocks)
         }
     }
+}
+
+/// The search for codes. Each slice is lent in a box of its length.
+pub fn codes(search: &Search) -> bool {
+    let (records, codes): (Box<[u8]>, Box<[u8]>) = (search.records[..].into(), search.codes[..].into());
+    let lengths: Box<[usize]> = search.lengths[..].into();
+    let answer = port::find_codes(&records, &codes, &lengths);
+    let mut expected = CodesFound { number: 0, visited: 0, found: [0; 16], blocks: [0; 16] };
+    match codes::find(&records, &codes, &lengths) {
+        codes::Answer::NotCodes => expected.number = 10,
+        codes::Answer::Broken => expected.number = 7,
+        codes::Answer::Found { visited, blocks } => {
+            expected.visited = visited;
+            for (k, block) in blocks.into_iter().enumerate() {
+                (expected.found[k], expected.blocks[k]) = (block.is_some() as u32, block.unwrap_or(0));
+            }
+        }
+    }
+    answer == expected
 }
 
 /// What the calls answer at the records' length, where no span stands either.

@@ -1,8 +1,10 @@
 //! compare [N [SEED]]: about N inputs to the port and to the published Rust, and every character to both; and half as many titles and records to the
-//! port and to a reading of document 02's sections. Prints how many of each kind were run and differ; ends with status 1 where any does, with 2 where it
-//! was not called so. compare cases, compare answers: what tools/replay-data puts together.
+//! port and to a reading of document 02's sections, and codes and records to the port and to a reading of its search for codes. Prints how many of each
+//! kind were run and differ; ends with status 1 where any does, with 2 where it was not called so. compare cases, compare answers: what
+//! tools/replay-data puts together.
 mod cases;
 mod check;
+mod codes;
 mod inputs;
 #[path = "../../target/compare/notes.rs"]
 #[allow(dead_code)]
@@ -12,6 +14,7 @@ mod outlines;
 mod port;
 mod random;
 mod records;
+mod searches;
 mod sections;
 mod sheet;
 mod sheets;
@@ -21,6 +24,7 @@ mod theme {
 
 use oracle::Block;
 use random::Random;
+use searches::Search;
 
 /// The least N, so that each kind is run.
 const LEAST: usize = 2_000;
@@ -142,6 +146,22 @@ fn sections(n: usize, seed: u64) -> Vec<Count> {
     ]
 }
 
+fn checked_codes(search: Search) -> (Vec<u8>, bool) {
+    let same = check::codes(&search);
+    (if same { Vec::new() } else { searches::request(&search) }, same)
+}
+
+fn searches(n: usize, seed: u64) -> Vec<Count> {
+    let sets = searches::SHORT_CODES;
+    vec![
+        run("short searches", n / 5, seed + 20, |k, _| checked_codes(searches::of_codes(short(&searches::SHORT, k / sets.len()), sets[k % sets.len()]))),
+        run("random searches", n / 8, seed + 21, |_, r| { let blocks = searches::blocks(r); checked_codes(searches::within(r, &blocks)) }),
+        run("damaged searches", n / 16, seed + 22, |_, r| { let blocks = searches::blocks(r); checked_codes(searches::broken(r, &blocks)) }),
+        run("searches of Markdown", n / 16, seed + 23, |_, r| { let blocks = oracle::blocks(&outlines::markdown(r)); checked_codes(searches::within(r, &blocks)) }),
+        run("long searches", n / 2000, seed + 24, |_, r| checked_codes(searches::long(r))),
+    ]
+}
+
 /// Every character, the surrogates left out: 1,112,064.
 fn characters() -> Vec<Count> {
     let mut buffers = check::Buffers::new();
@@ -153,7 +173,7 @@ fn characters() -> Vec<Count> {
 }
 
 fn stop(why: &str) -> ! {
-    eprintln!("compare: {why}\nIt is called as compare/run NOTES_RS [N [SEED]]: about N inputs and half as many sections, N {LEAST} at least (10000 where it is left out), by the generator's SEED (1).");
+    eprintln!("compare: {why}\nIt is called as compare/run NOTES_RS [N [SEED]]: about N inputs and half as many sections and searches for codes, N {LEAST} at least (10000 where it is left out), by the generator's SEED (1).");
     std::process::exit(2)
 }
 
@@ -177,7 +197,7 @@ fn main() {
     if let Some(word) = words.get(2) {
         stop(&format!("{word:?} is one word too many; leave it out"));
     }
-    let counts: Vec<Count> = [pages(n, seed), texts(n, seed), sheets(n, seed), sections(n, seed), characters()].into_iter().flatten().collect();
+    let counts: Vec<Count> = [pages(n, seed), texts(n, seed), sheets(n, seed), sections(n, seed), searches(n, seed), characters()].into_iter().flatten().collect();
     for count in &counts {
         println!("{:22}{:9} run {:6} differ", count.kind, count.run, count.differ);
     }

@@ -14,7 +14,7 @@ pub const SHORT: [&str; 8] = [
 pub const SHORT_TITLES: [&[u8]; 5] = [b"A", b"AB", b"B", b"", b"A\xff"];
 
 /// What is no block: a map, a level, a count, a span, a marker or a depth that is not allowed, or too few bytes.
-const BEHIND: [&[u8]; 10] = [
+pub const BEHIND: [&[u8]; 10] = [
     b"\x10", b"\x09", b"\x01\x04", b"\x08\0\0\0\0", b"\x08\x01\0\0\0", b"\x08\x01\0\0\0\x03", b"\x08\x01\0\0\0\x08\x01\0\0\0\xff", b"\x08\x01\0\0\0\x08\x02\0\0\0a", b"\x04\x01.", b"\x06\0\0\x021.",
 ];
 

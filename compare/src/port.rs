@@ -63,6 +63,14 @@ pub struct SectionAt {
     pub start: usize,
     pub length: usize,
 }
+#[repr(C)]
+#[derive(Debug, PartialEq)]
+pub struct CodesFound {
+    pub number: u32,
+    pub visited: usize,
+    pub found: [u32; 16],
+    pub blocks: [usize; 16],
+}
 pub const END: u32 = 0;
 pub const HEADING: u32 = 1;
 pub const PARAGRAPH: u32 = 2;
@@ -81,6 +89,7 @@ mod raw {
         pub fn rn_first_at(records: *const u8, len: usize, at: usize) -> FirstAt;
         pub fn rn_here_at(records: *const u8, len: usize, at: usize) -> HereAt;
         pub fn rn_section_at(records: *const u8, len: usize, title: *const u8, title_len: usize) -> SectionAt;
+        pub fn rn_find_codes(records: *const u8, len: usize, codes: *const u8, codes_len: usize, lengths: *const usize, lengths_len: usize) -> CodesFound;
     }
 }
 
@@ -115,4 +124,7 @@ pub fn here_at(records: &[u8], at: usize) -> HereAt {
 }
 pub fn section_at(records: &[u8], title: &[u8]) -> SectionAt {
     unsafe { raw::rn_section_at(records.as_ptr(), records.len(), title.as_ptr(), title.len()) }
+}
+pub fn find_codes(records: &[u8], codes: &[u8], lengths: &[usize]) -> CodesFound {
+    unsafe { raw::rn_find_codes(records.as_ptr(), records.len(), codes.as_ptr(), codes.len(), lengths.as_ptr(), lengths.len()) }
 }

@@ -1,12 +1,14 @@
 -- What C is given for each answer: document 01's number and values, 0 where there is none.
 -- Assumes nothing.
-use Rattle.std.specs.Prelude.{ℕ, ◌-◌, Bool}
+use Rattle.std.specs.Prelude.{ℕ, ◌-◌, Bool, map, replicate}
+use mathlib.Core.List.{List}
 use Rattle.std.proofs.Math.Option.{Option, none, some}
 use Rattle.text.specs.Outcome.{Outcome, number, returned}
 use Rattle.records.specs.Format.{bit}
 use Rattle.walker.specs.Answers.{Answer, at_end, refused, gives, BlockValues, Emphasis}
 use Rattle.walker.specs.Places.{HereValues}
 use Rattle.text.specs.declared.parts.Part as T
+use Rattle.codes.specs.Calls.{FoundValues}
 use Rattle.sheet.specs.Calls as S
 use Rattle.sheet.specs.Calls.{no_utf8, no_sheet, yes_sheet}
 use Rattle.capi.specs.declared.values.Written.{Written}
@@ -16,6 +18,7 @@ use Rattle.capi.specs.declared.values.FirstAt.{FirstAt}
 use Rattle.capi.specs.declared.values.HereAt.{HereAt}
 use Rattle.capi.specs.declared.values.Part.{Part}
 use Rattle.capi.specs.declared.values.SectionAt.{SectionAt}
+use Rattle.capi.specs.declared.values.CodesFound.{CodesFound}
 use Rattle.capi.specs.declared.values.Tested.{Tested}
 
 abbrev pub written_of : ℕ → ℕ → Written
@@ -79,6 +82,23 @@ section_struct at_end = record { number = 0; found = 0; start = 0; length = 0 }
 section_struct (refused n) = record { number = n; found = 0; start = 0; length = 0 }
 section_struct (gives none) = record { number = 0; found = 0; start = 0; length = 0 }
 section_struct (gives (some r)) = record { number = 0; found = 1; start = r.start; length = r.end - r.start }
+
+-- 1 or 0: whether a code has a number
+abbrev pub is_found : Option ℕ → ℕ
+is_found none = 0
+is_found (some n) = 1
+
+abbrev pub codes_of : ℕ → ℕ → List ℕ → List ℕ → CodesFound
+codes_of number visited found blocks = record { number = number; visited = visited; found = found; blocks = blocks }
+
+-- 16 codes, of which none is found
+abbrev pub none_found : ℕ → CodesFound
+none_found number = codes_of number 0 (replicate 16 0) (replicate 16 0)
+
+abbrev pub codes_struct : Answer FoundValues → CodesFound
+codes_struct at_end = none_found 0
+codes_struct (refused n) = none_found n
+codes_struct (gives v) = codes_of 0 v.visited (map is_found v.blocks) (map or_0 v.blocks)
 
 abbrev pub sheet_struct : S.Tested → Tested
 sheet_struct no_utf8 = record { number = 1; yes = 0; bytes = 0; characters = 0 }

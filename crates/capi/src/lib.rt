@@ -8,13 +8,14 @@ ghost use Rattle.html.specs.Calls.{html_to_markdown_call};
 ghost use Rattle.text.specs.Outcome.{result_after, work_kept};
 ghost use Rattle.markdown.specs.Calls.{blocks_call};
 ghost use Rattle.sheet.specs.Calls.{sheet_call};
+ghost use Rattle.codes.specs.Calls.{codes_answer};
 ghost use Rattle.sections.specs.Calls.{section_answer};
 ghost use Rattle.capi.specs.Values.{written_struct, sheet_struct};
-ghost use Rattle.capi.specs.Values.{block_struct, span_struct, first_struct, here_struct, part_struct, section_struct};
+ghost use Rattle.capi.specs.Values.{block_struct, span_struct, first_struct, here_struct, part_struct, section_struct, codes_struct};
 
 mod values;
 
-pub use values::{BlockAt, FirstAt, HereAt, Part, SectionAt, SpanAt, Tested, Written};
+pub use values::{BlockAt, CodesFound, FirstAt, HereAt, Part, SectionAt, SpanAt, Tested, Written};
 
 #[unsafe(no_mangle)]
 pub extern "C" fn rn_html_to_markdown(page: &[u8], work: &mut [u8], res: &mut [u8]) -> Written
@@ -82,6 +83,13 @@ pub extern "C" fn rn_section_at(records: &[u8], title: &[u8]) -> SectionAt
     ensures { result ≡ section_struct (section_answer records.now title.now) }
 {
     sections::section_at(records, title).into()
+}
+
+#[unsafe(no_mangle)]
+pub extern "C" fn rn_find_codes(records: &[u8], codes: &[u8], lengths: &[usize]) -> CodesFound
+    ensures { result ≡ codes_struct (codes_answer records.now codes.now lengths.now) }
+{
+    codes::find_codes(records, codes, lengths).into()
 }
 
 #[unsafe(no_mangle)]

@@ -2,11 +2,13 @@
 // flag that says what the other fields are; whatever has no value is 0.
 ghost use Rattle.std.specs.Prelude.{◌≡◌, Ok, Some, IfOk, IfErr};
 ghost use Rattle.walker.specs.Numbers.{block_values, span_values, first_values, here_values};
+ghost use Rattle.codes.specs.Calls.{codes_values};
 ghost use Rattle.sections.specs.Calls.{section_values};
 ghost use Rattle.sheet.specs.Calls.{answer};
 ghost use Rattle.capi.specs.Values.{written_of, sheet_struct};
-ghost use Rattle.capi.specs.Values.{block_struct, span_struct, first_struct, here_struct, part_struct, section_struct};
+ghost use Rattle.capi.specs.Values.{block_struct, span_struct, first_struct, here_struct, part_struct, section_struct, codes_struct};
 
+use codes::{CodesError, Found};
 use sheet::{Count, NotUtf8};
 use walker::{Block, Broken, Emphasis, Kind, Span};
 
@@ -221,6 +223,37 @@ impl From<Result<Option<text::Part>, Broken>> for SectionAt {
             Err(broken) => SectionAt {
                 number: broken.into(),
                 ..SectionAt::default()
+            },
+        }
+    }
+}
+
+// For each code the first block that contains it: found is 1 and blocks has that block's number, or both are 0, where none does and behind the codes.
+#[repr(C)]
+#[derive(Clone, Copy)]
+pub struct CodesFound {
+    pub number: u32,
+    pub visited: usize,
+    pub found: [u32; 16],
+    pub blocks: [usize; 16],
+}
+
+impl From<Result<Found, CodesError>> for CodesFound {
+    ghost from_gives = { λ answer c. c ≡ codes_struct (codes_values answer) };
+
+    fn from(answer: Result<Found, CodesError>) -> CodesFound {
+        match answer {
+            Ok(found) => CodesFound {
+                number: 0,
+                visited: found.visited,
+                found: found.blocks.map(|block| block.is_some().into()),
+                blocks: found.blocks.map(|block| block.unwrap_or(0)),
+            },
+            Err(error) => CodesFound {
+                number: error.into(),
+                visited: 0,
+                found: [0; 16],
+                blocks: [0; 16],
             },
         }
     }

@@ -1,10 +1,11 @@
 // Replays stored answers, read from standard input, and says how many differ. The letter of a case says what is replayed: P a page, M Markdown, S a page
-// and the sheet test, T a title and records.
+// and the sheet test, T a title and records, C codes and records.
 #![tactic(auto)]
 
 mod blocks;
 mod case;
 mod pages;
+mod searches;
 mod sheets;
 mod titles;
 
@@ -51,5 +52,6 @@ fn main(rt: HostRuntime) -> io::Result<()> {
     say(&rt, "pages", replayed(data, b'P', pages::agrees))?;
     say(&rt, "Markdown", replayed(data, b'M', blocks::agrees))?;
     say(&rt, "sheets", replayed(data, b'S', sheets::agrees))?;
-    say(&rt, "sections", replayed(data, b'T', titles::agrees))
+    say(&rt, "sections", replayed(data, b'T', titles::agrees))?;
+    say(&rt, "searches", replayed(data, b'C', searches::agrees))
 }

@@ -17,21 +17,17 @@ use Rattle.text.specs.Words.{same, starts_with}
 use Rattle.text.specs.Part.{between, Inside}
 use Rattle.text.specs.Utf8.{encode}
 use Rattle.text.proofs.Laws.{encode_append}
-use Rattle.text.proofs.Tests.{decide, test_iff, same_true, starts_split, true_false}
-use Rattle.records.specs.Blocks.{Span, Block, joined}
-use Rattle.walker.specs.Answers.{Answer, at_end, refused, gives, map, found_at, block_answer}
-use Rattle.walker.specs.Places.{span_from, HereValues, first_answer, here_answer}
+use Rattle.text.proofs.Tests.{decide, test_iff, same_true, starts_split, starts_self, true_false}
+use Rattle.records.specs.Blocks.{Span, joined}
+use Rattle.walker.specs.Answers.{found_at, block_answer, count_of}
+use Rattle.walker.specs.Places.{HereValues, first_answer, here_answer}
 use Rattle.walker.specs.Numbers.{emphasis_in, first_values, here_values}
 use Rattle.walker.specs.declared.blocks.Broken.{Broken}
 use Rattle.walker.specs.declared.blocks.Span as S
-use Rattle.walker.proofs.SpanSteps.{SpanHere, never_bad, span_shown}
-use Rattle.sections.specs.Readers.{count_of, has_text}
+use Rattle.walker.proofs.SpanSteps.{SpanHere, AtSpan, at_first, where_first, first_there, no_other, this_span, at_next}
+use Rattle.sections.specs.Readers.{has_text}
 
 -- ---- a text that is the same as two others joined
-starts_self : (p q : List ℕ) → starts_with p (p ++ q) ≡ true
-starts_self [] q = refl
-starts_self (d ∷ p) q = rw (eq-eqb d d refl) (starts_self p q)
-
 same_behind : (p q r : List ℕ) → same (p ++ q) (p ++ r) ≡ same q r
 same_behind [] q r = refl
 same_behind (d ∷ p) q r = rw (eq-eqb d d refl) (same_behind p q r)
@@ -53,81 +49,53 @@ same_none t k l = test_iff (eqb k (length t)) (same [] (drop k t)) there back
     back : same [] (drop k t) ≡ true → eqb k (length t) ≡ true
     back e = let d : [] ≡ drop k t = same_true [] (drop k t) e in eq-eqb k (length t) (omega (arith, ap length d, length-drop k t))
 
--- ---- the loop: the block that is read, where its next span stands, and what is left to compare
+-- ---- the loop: where the next span stands, and what is left to compare
 pub record Meets (s : List ℕ) (at : ℕ) (title : List ℕ) (count here met n : ℕ) : Type 0 where
-  pub f : Block × ℕ
-  pub found : found_at s at ≡ gives f
-  pub counted : length f.0.spans ≡ count
-  pub stands : here ≡ span_from f.0.spans f.1 n
+  pub span : AtSpan s at count here n
   pub most : met ≤ length title
-  pub left : same (encode (joined (drop n f.0.spans))) (drop met title) ≡ has_text title (found_at s at)
+  pub left : same (encode (joined (drop n span.f.0.spans))) (drop met title) ≡ has_text title (found_at s at)
 
 module _ (s : List ℕ) (at : ℕ) (title : List ℕ) where
-  first_meets : {count first : ℕ} → count ≡ count_of (block_answer s at) → (a : Answer (Block × ℕ)) → found_at s at ≡ a
-      → gives first ≡ map (λ f. span_from f.0.spans f.1 0) a → Meets s at title count first 0 0
-  unfolding block_answer
-  first_meets h at_end e g = let z : ◌≡◌ {A = ℕ} 0 1 = cc in absurd (omega arith)
-  first_meets h (refused k) e g = let z : ◌≡◌ {A = ℕ} 0 1 = cc in absurd (omega arith)
-  first_meets {count} {first} h (gives f) e g =
-      record { f = f; found = e; counted = sym (rw e at h); stands = cc; most = zero-le; left = rw e }
-
   -- before the first turn
   pub meets_first : {count first : ℕ} {o : code.Option ℕ} → count ≡ count_of (block_answer s at) → o ≡ Some first → first_values (Ok o) ≡ first_answer s at
       → Meets s at title count first 0 0
-  unfolding first_answer
-  meets_first h e g = first_meets h (found_at s at) refl (sym (ap (λ (o : code.Option ℕ). first_values (Ok o)) e) ∙ g)
+  meets_first h e g = let w = at_first s at h e g in record { span = w; most = zero-le; left = rw w.found refl }
 
-  -- where no first span is answered there is no block, and so no text
-  abbrev pub where_first : code.Result (code.Option ℕ) Broken → Bool → Bool
-  where_first (Ok (Some v)) t = t
-  where_first (Ok None) t = false
-  where_first (Err e) t = false
-
-  no_block : (a : Answer (Block × ℕ)) → ((v : ℕ) → gives v ≡ map (λ f. span_from f.0.spans f.1 0) a → ⊥) → false ≡ has_text title a
-  no_block at_end g = refl
-  no_block (refused k) g = refl
-  no_block (gives f) g = absurd (g _ refl)
-
-  pub first_there : (r : code.Result (code.Option ℕ) Broken) → first_values r ≡ first_answer s at
-      → where_first r (has_text title (found_at s at)) ≡ has_text title (found_at s at)
-  unfolding first_answer
-  first_there (Ok (Some v)) h = refl
-  first_there (Ok None) h = no_block (found_at s at) (λ v i. let z : ◌≡◌ {A = ℕ} 0 1 = cc in absurd (omega arith))
-  first_there (Err e) h = no_block (found_at s at) (λ v i. let z : ◌≡◌ {A = ℕ} 0 1 = cc in absurd (omega arith))
+  -- where no first span is answered there is no text
+  pub no_title : (r : code.Result (code.Option ℕ) Broken) → first_values r ≡ first_answer s at
+      → where_first r (has_text title (found_at s at)) false ≡ has_text title (found_at s at)
+  no_title r g = first_there s at (has_text title) false refl (λ k. refl) r g
 
   module _ {count here met n : ℕ} (w : Meets s at title count here met n) where
     -- all spans were met
     pub meets_all : count ≤ n → eqb met (length title) ≡ has_text title (found_at s at)
     meets_all l =
-        let m : length w.f.0.spans ≤ n = rw w.counted l in
-        let e : drop n w.f.0.spans ≡ [] = drop_of_length-le w.f.0.spans m in
+        let m : length w.span.f.0.spans ≤ n = rw w.span.counted l in
+        let e : drop n w.span.f.0.spans ≡ [] = drop_of_length-le w.span.f.0.spans m in
         same_none title met w.most ∙ ap (λ (l : List Span). same (encode (joined l)) (drop met title)) (sym e) ∙ w.left
 
     module _ (l : n < count) where
-      under : n < length w.f.0.spans
-      under = rw w.counted l
-
       -- a span stands there
       pub meets_span : {b : Broken} → here_values (Err b) ≡ here_answer s here → false ≡ has_text title (found_at s at)
-      meets_span g = absurd (never_bad s at w.found n under w.stands g)
+      meets_span g = absurd (no_other s at w.span l g)
 
       module _ (v : S.Span) (g : here_values (Ok v) ≡ here_answer s here) where
         abbrev values : HereValues
         values = record { emphasis = emphasis_in v.emphasis; text = v.text; next = v.next }
 
-        this : SpanHere s w.f n values
-        this = span_shown s at w.found n under w.stands g
+        this : SpanHere s w.span.f n values
+        this = this_span s at w.span l v g
 
         -- what is left, with the span's text in front
         abbrev piece : List ℕ
         piece = encode this.x.text
 
         abbrev behind : List ℕ
-        behind = encode (joined (drop (suc n) w.f.0.spans))
+        behind = encode (joined (drop (suc n) w.span.f.0.spans))
 
         in_front : same (piece ++ behind) (drop met title) ≡ has_text title (found_at s at)
         in_front =
-            ap (λ (l : List ℕ). same l (drop met title)) (sym (encode_append this.x.text (joined (drop (suc n) w.f.0.spans))))
+            ap (λ (l : List ℕ). same l (drop met title)) (sym (encode_append this.x.text (joined (drop (suc n) w.span.f.0.spans))))
             ∙ ap (λ (l : List Span). same (encode (joined l)) (drop met title)) (sym this.rest)
             ∙ w.left
 
@@ -154,12 +122,10 @@ module _ (s : List ℕ) (at : ℕ) (title : List ℕ) where
                 omega (arith, ap length piece_is, q, length-append piece (drop (length piece) (drop met title)), length-drop met title)
 
             meets_next : Meets s at title count v.next (met + length p) (n + 1)
+            unfolding at_next
             meets_next =
                 record {
-                  f = w.f;
-                  found = w.found;
-                  counted = w.counted;
-                  stands = rw (add-one n) this.follows;
+                  span = at_next s at w.span l v g;
                   most = meets_most;
                   left = rw (add-one n, ← piece_is, ← drop-drop (length piece) met title) (same_on piece behind (drop met title) (starts ∙ f) ∙ in_front);
                 }

@@ -7,7 +7,7 @@ use Rattle.text.specs.Words.{◌>>=◌, same}
 use Rattle.text.specs.Utf8.{encode}
 use Rattle.records.specs.Blocks.{Block, joined}
 use Rattle.records.specs.Format.{encode_blocks}
-use Rattle.walker.specs.Answers.{Answer, at_end, refused, gives, map, BlockValues}
+use Rattle.walker.specs.Answers.{Answer, at_end, refused, gives, map}
 use Rattle.walker.specs.Decoded.{blocks_from, of_blocks}
 use Rattle.text.specs.declared.parts.Part.{Part}
 use Rattle.walker.specs.declared.blocks.Broken.{Broken}
@@ -16,12 +16,6 @@ use Rattle.walker.specs.declared.blocks.Kind.TheVariants as KV
 use Rattle.sections.specs.Sections.{closes, until}
 use Rattle.sections.specs.Calls.{section_place}
 use Rattle.sections.specs.declared.Heading.{Heading}
-
--- the span count of a block that the walker shows
-abbrev pub count_of : Answer BlockValues → ℕ
-count_of at_end = 0
-count_of (refused n) = 0
-count_of (gives v) = v.count
 
 -- whether a block that the walker finds has a joined text of these bytes
 abbrev pub has_text : List ℕ → Answer (Block × ℕ) → Bool

@@ -5,9 +5,9 @@
 #![tactic(auto)]
 
 ghost use Rattle.std.specs.Prelude.{◌≡◌};
-ghost use Rattle.walker.specs.Answers.{found_at, block_answer};
+ghost use Rattle.walker.specs.Answers.{found_at, block_answer, count_of};
 ghost use Rattle.sections.specs.Calls.{section_answer, section_range, section_part, section_values};
-ghost use Rattle.sections.specs.Readers.{count_of, has_text, level_if, closes_at, end_answer, end_values, heading_values};
+ghost use Rattle.sections.specs.Readers.{has_text, level_if, closes_at, end_answer, end_values, heading_values};
 
 use text::{Part, starts_with};
 use walker::{Block, Broken, Kind, block_at, first_at, here_at, is_whole};

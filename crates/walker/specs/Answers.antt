@@ -68,6 +68,12 @@ found_at s at = if eqb at (length s) then at_end else placed (length s) (block_a
 unfoldable pub block_answer : List ℕ → ℕ → Answer BlockValues
 block_answer s at = map (λ f. values_of f.0 f.1) (found_at s at)
 
+-- the span count of the block that is answered
+abbrev pub count_of : Answer BlockValues → ℕ
+count_of at_end = 0
+count_of (refused n) = 0
+count_of (gives v) = v.count
+
 -- a text, which is empty where there is none
 abbrev pub text_or_none : {A : Type 0} → (A → List ℕ) → Answer A → List ℕ
 text_or_none f at_end = []

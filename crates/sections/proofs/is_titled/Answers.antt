@@ -1,7 +1,7 @@
 -- `sections::is_titled`: each turn compares the text of one span, and leaves the others and the rest of the title.
 -- Assumes nothing.
 use native.Mathlib.Omega.{arith}
-use Rattle.sections.proofs.TitleLaws.{first_there, meets_first, meets_all, meets_span, text_within, Turn, turn}
+use Rattle.sections.proofs.TitleLaws.{no_title, meets_first, meets_all, meets_span, text_within, Turn, turn}
 use Rattle.sections.proofs.is_titled.Goals as goal
 use Rattle.sections.proofs.is_titled.Goals.{After-of-text}
 
@@ -10,10 +10,10 @@ this : (c : After-of-text) → let l = c.loop-n in Turn c.args.records.now c.arg
 this c = turn _ _ _ c.loop-n.invariant c.loop-n-test.true c.in-Ok.span c.in-Ok.ensures c.of-text.ensures.bytes
 
 pub returns-in_default : goal.returns-in_default
-returns-in_default c = grind (arith, first_there c.args.records.now c.args.at c.args.title.now c.first_at.result c.first_at.ensures)
+returns-in_default c = grind (arith, no_title c.args.records.now c.args.at c.args.title.now c.first_at.result c.first_at.ensures)
 
 pub returns-in_default-2 : goal.returns-in_default-2
-returns-in_default-2 c = grind (arith, first_there c.args.records.now c.args.at c.args.title.now c.first_at.result c.first_at.ensures)
+returns-in_default-2 c = grind (arith, no_title c.args.records.now c.args.at c.args.title.now c.first_at.result c.first_at.ensures)
 
 pub loop-n-init : goal.loop-n-init
 loop-n-init c = meets_first _ _ _ c.requires c.in-Ok-Some.field-0-is c.in-Ok-Some.ensures

@@ -1,0 +1,14 @@
+pub mod SearchLaws
+pub mod Reading
+pub mod Containing
+pub mod WalkEnds
+pub mod NumberLaws
+pub mod LoneSearch
+pub mod WholeRecords
+pub mod Examples
+pub mod ScanLaws
+pub mod LengthLaws
+pub mod MaskLaws
+pub mod BlockLaws
+pub mod WalkLaws
+pub mod Stood
