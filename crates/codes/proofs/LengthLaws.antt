@@ -98,9 +98,6 @@ module _ {bytes lengths : List ℕ} {from i : ℕ} (w : Parted bytes lengths fro
   fits : from + size + total (drop (i + 1) lengths) ≡ length bytes
   fits = omega (arith, w.sums, ap total (drop_next lengths i l))
 
-  pub ends_inside : from + size ≤ length bytes
-  ends_inside = omega (arith, fits)
-
   pub parted_next : Parted bytes lengths (from + size) (i + 1)
   parted_next =
       record {

@@ -18,14 +18,14 @@ use Rattle.std.specs.Prelude as code
 use Rattle.text.proofs.Tests.{decide, and_true, true_false}
 use Rattle.records.specs.Blocks.{Block}
 use Rattle.walker.specs.Answers.{Answer, refused, gives}
-use Rattle.codes.specs.Search.{first_block, lone_visited, visited, all_found}
+use Rattle.codes.specs.Search.{is_some, first_block, lone_visited, visited, all_found}
 use Rattle.codes.specs.Calls.{divided, are_codes, Reading, reading, FoundValues, sixteen, numbers, search, codes_answer}
 use Rattle.codes.specs.Calls.{option_of, codes_values}
 use Rattle.codes.specs.declared.Found.{Found}
 use Rattle.codes.specs.declared.CodesError.{CodesError}
 use Rattle.codes.proofs.LengthLaws.{known, its_length, as_many, size_at}
 use Rattle.codes.proofs.NumberLaws.{option_one}
-use Rattle.codes.proofs.SearchLaws.{is_some, found_each, missing_one, visited_at}
+use Rattle.codes.proofs.SearchLaws.{found_each, missing_one, visited_at}
 
 -- code i of those that are lent
 abbrev pub code_at : List ℕ → List ℕ → ℕ → List ℕ

@@ -1,6 +1,7 @@
 -- The words that say where a code has a byte, one byte of the code after the other.
 -- Assumes nothing.
-use Rattle.std.proofs.Common.{◌≡◌, ◌≢◌, ℕ, List, [], length, ◌+◌, ◌*◌, ◌%◌, ◌^◌, ◌<◌, ◌≤◌, refl, sym, ap, ◌∙◌, arith, get_or, set, take, drop, slice_index, bit_or, max, ltb, eqb, w32, ⊎_elim, ap₂}
+use Rattle.std.proofs.Common.{◌≡◌, ◌≢◌, ℕ, List, [], length, ◌+◌, ◌*◌, ◌%◌, ◌^◌, ◌<◌, ◌≤◌, refl, sym}
+use Rattle.std.proofs.Common.{ap, ◌∙◌, arith, get_or, set, take, drop, slice_index, bit_or, max, ltb, eqb, w32, ⊎_elim, ap₂}
 use mathlib.Core.Bool.{Bool, false, ◌&&◌}
 use Rattle.std.specs.Int.{bit_at}
 use Rattle.std.proofs.lemmas.Bool.{cases_eq, cases_lt}

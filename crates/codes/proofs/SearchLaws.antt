@@ -11,10 +11,7 @@ use Rattle.std.specs.Prelude.{if◌then◌else◌}
 use Rattle.text.specs.Words.{◌>>=◌, case, index, is_empty, starts_with}
 use Rattle.text.proofs.Tests.{and_true, false_true, true_false}
 use Rattle.records.specs.Blocks.{Block}
-use Rattle.codes.specs.Search.{text_of, contains, first_block, lone_visited, visited, all_found}
-
-abbrev pub is_some : Option ℕ → Bool
-is_some o = case o false (λ n. true)
+use Rattle.codes.specs.Search.{is_some, text_of, contains, first_block, lone_visited, visited, all_found}
 
 some_is : (o : Option ℕ) → is_some o ≡ true → (n : ℕ) × (o ≡ some n)
 some_is none e = false_true e
@@ -169,6 +166,3 @@ module _ (before rest : List Block) where
 
 pub visited_all : (cs : List (List ℕ)) (before rest : List Block) → all_found cs before ≡ true → visited cs (before ++ rest) ≤ length before
 visited_all cs before rest e = omega (arith, (stays before rest cs e).visits, visited_most cs before)
-
-pub found_all : (cs : List (List ℕ)) (before rest : List Block) → all_found cs before ≡ true → all_found cs (before ++ rest) ≡ true
-found_all cs before rest e = (stays before rest cs e).founds

@@ -14,7 +14,7 @@ use Rattle.records.specs.Blocks.{Block}
 use Rattle.records.specs.Format.{bit}
 use Rattle.walker.specs.Answers.{refused, gives, found_at}
 use Rattle.walker.proofs.Decoded.{Stands}
-use Rattle.codes.specs.Search.{text_of, contains, first_block, visited, all_found}
+use Rattle.codes.specs.Search.{is_some, text_of, contains, first_block, visited, all_found}
 use Rattle.codes.specs.Calls.{Reading, nothing_read, then_read, reading, divided, are_codes, numbers, sixteen, codes_answer, option_of, codes_values}
 use Rattle.codes.specs.Readers.{nth, text_at, HasMasks, Scanned, given, stands, stood, Numbered}
 use Rattle.codes.specs.declared.Found.{Found}
@@ -22,7 +22,7 @@ use Rattle.codes.specs.declared.CodesError.{CodesError}
 use Rattle.codes.specs.declared.CodesError.TheVariants as E
 use Rattle.codes.specs.declared.scan.Scan.{Scan}
 use Rattle.codes.proofs.Reading.{reading_from, from_start, block_here}
-use Rattle.codes.proofs.SearchLaws.{is_some, first_more, visited_most, visited_more, visited_all, stays}
+use Rattle.codes.proofs.SearchLaws.{first_more, visited_most, visited_more, visited_all, stays}
 use Rattle.text.proofs.Tests.{and_false}
 use Rattle.codes.proofs.LengthLaws.{known, its_length, as_many, size_at}
 use Rattle.codes.proofs.LoneSearch.{call_is, stops, search_gives, search_seven}

@@ -13,9 +13,12 @@ use Rattle.records.specs.Blocks.{Block, joined}
 abbrev pub text_of : Block → List ℕ
 text_of b = encode (joined b.spans)
 
+abbrev pub is_some : Option ℕ → Bool
+is_some o = case o false (λ n. true)
+
 -- whether a code stands somewhere in a text
 abbrev pub contains : List ℕ → List ℕ → Bool
-contains code text = case (index code text) false (λ n. true)
+contains code text = is_some (index code text)
 
 -- a lone search: the number of the first block that contains the code
 unfoldable pub first_block : List ℕ → List Block → Option ℕ
@@ -36,4 +39,4 @@ visited (c ∷ cs) bs = max (lone_visited c bs) (visited cs bs)
 -- whether every code has its number
 unfoldable pub all_found : List (List ℕ) → List Block → Bool
 all_found [] bs = true
-all_found (c ∷ cs) bs = case (first_block c bs) false (λ n. true) && all_found cs bs
+all_found (c ∷ cs) bs = is_some (first_block c bs) && all_found cs bs
