@@ -14,6 +14,8 @@ pub(crate) struct Case<'a> {
     pub(crate) input: &'a [u8],
     // The stored bytes, or the refusal's number.
     pub(crate) answer: Result<&'a [u8], u32>,
+    // The stored bytes as far as the file has them; none at a refusal.
+    pub(crate) present: &'a [u8],
 }
 
 // The number of the first four bytes, the lowest first, with 0 for each that is not there.
@@ -47,6 +49,7 @@ impl<'a> Case<'a> {
             letter: *letter,
             input: text::front(texts, size),
             answer: stored(behind, want),
+            present: text::front(behind, taken),
         };
         Some((case, text::past(behind, taken)))
     }
