@@ -132,3 +132,9 @@ promised o p a result result' work work' e x y z v = rw e (record { result_value
 pub notes_is : (notes trimmed written : List ℕ) → trimmed ≡ encode (trim (chars written)) → notes ≡ encode (take 8000 (chars trimmed))
     → notes ≡ encode (take 8000 (trim (chars written)))
 notes_is notes trimmed written e f = f ∙ ap (λ (x : List ℕ). encode (take 8000 x)) (ap chars e ∙ chars_trim written)
+
+-- nothing is copied out where nothing was written
+pub notes_none : (written : List ℕ) → length written ≡ 0 → encode (take 8000 (trim (chars written))) ≡ []
+unfolding trim_end_matches drop_while
+notes_none [] e = rw chars_nil
+notes_none (_ ∷ _) e = grind arith
