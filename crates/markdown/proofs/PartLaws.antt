@@ -1,12 +1,13 @@
 -- The laws of parts of a list, and of a part without the spaces at its ends.
 -- Assumes nothing.
 use Prim.Native.Nat.{ℕ, zero, suc, ◌+◌, ◌-◌, ◌≤◌}
-use mathlib.Core.List.{List, [], ◌∷◌, ◌++◌}
+use mathlib.Core.List.{List, [], ◌∷◌, ◌++◌, append_assoc}
 use mathlib.Core.Path.{◌≡◌, sym, ap, ◌∙◌}
 use native.Mathlib.Omega.{arith}
 use native.Mathlib.Nat.{sub-zero, suc-sub-suc}
 use lib.ListN.{length, take, drop, length-drop}
-use lib.Seq.{paste, sets, sets-eq, take-take, drop-drop, take-nil, length-take-le, take-length, take_all}
+use lib.Seq.{sets, sets-eq, take-take, drop-drop, take-nil, length-take-le, take-length, take_all}
+use Rattle.records.proofs.Stores.{sets_front}
 use Rattle.text.specs.Utf8.{encode, chars}
 use Rattle.text.specs.Trim.{trim_start, trim_end, start_of, end_of}
 use Rattle.text.proofs.TrimLaws.{drop_start, chars_start, start_le, end_le, take_end, chars_end}
@@ -68,9 +69,14 @@ trimmed_is s from to k m v e f =
       text = ap chars t ∙ chars_end (between s (from + k) to) ∙ ap trim_end c;
     }
 
--- a part stored elsewhere in its list
-pub copied_part : (s : List ℕ) (from to at : ℕ) → from ≤ to → to ≤ length s → at + (to - from) ≤ length s
-    → paste s at (drop from s) (to - from) ≡ sets s at (between s from to)
+-- a part stored behind itself in its list, which is taken apart there
+pub copied_part : (s : List ℕ) (from to at : ℕ) → from ≤ to → to ≤ at → at + (to - from) ≤ length s
+    → take at s ++ sets (drop at s) 0 (between (take at s) from to) ≡ sets s at (between s from to)
 copied_part s from to at o b f =
-    let n = part_length s from to o b in
-    sym (sets-eq (between s from to) s at (omega arith) ∙ ap (λ (k : ℕ). take at s ++ between s from to ++ drop (at + k) s) n)
+    let p = between s from to in
+    let n : length p ≡ to - from = part_length s from to o (omega (arith, b, f)) in
+    let same : between (take at s) from to ≡ p =
+    rw (drop_take from at s) (take-take (to - from) (at - from) (drop from s) (omega arith)) in
+    let room : length p ≤ length (drop at s) = rw (length-drop at s) (omega arith) in
+    rw (same, sets_front (drop at s) p room, drop-drop (length p) at s)
+    (sym (append_assoc (take at s) p (drop (at + length p) s)) ∙ sym (sets-eq p s at (omega arith)))

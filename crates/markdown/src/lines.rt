@@ -135,14 +135,16 @@ pub(crate) fn next_line(markdown: &[u8], i: usize, work: &mut [u8]) -> Line
     }
 }
 
-// Stores a text from `at` on.
+// Stores a text from `at` on. What is copied within the work buffer is copied from one part of it to another: `copy_within` would be a call of
+// `memmove`, which the archive for C does without.
 pub(crate) fn put_text(markdown: &[u8], work: &mut [u8], text: Text, at: usize)
     requires { (text.part.start ≤ text.part.end) × ((text.part.end ≤ length markdown.now) × ((length markdown.now ≤ at) × (at + size text ≤ length work.old))) }
     ensures { work.new ≡ sets work.old at (text_at markdown.now work.old text) }
 {
     let Part { start, end } = text.part;
     if text.copied {
-        work.copy_within(start..end, at);
+        let (front, behind) = work.split_at_mut(at);
+        records::writer::put_bytes(behind, 0, &front[start..end]);
         return;
     }
     records::writer::put_bytes(work, at, &markdown[start..end]);

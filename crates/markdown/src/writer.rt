@@ -15,10 +15,11 @@ use crate::lines::Text;
 use spans::Written;
 
 // The last block, an item, which lines may continue: where its record starts, its map byte, where its span count goes, and how many spans it has.
+// The map byte is a wide number: behind a byte stands a gap, which is copied with the state, line by line, and short lines take up to twice as long.
 #[derive(Clone, Copy)]
 pub struct OpenItem {
     pub head: usize,
-    pub map: u8,
+    pub map: usize,
     pub fields: usize,
     pub count: usize,
 }
@@ -143,7 +144,7 @@ pub(crate) fn put_item(digits: Digits, text: &[u8], out: &mut [u8], s: State, de
         at: w.next,
         item: Some(OpenItem {
             head: at,
-            map,
+            map: usize::from(map),
             fields,
             count: w.count,
         }),
@@ -180,7 +181,7 @@ pub(crate) fn continue_item(text: &[u8], out: &mut [u8], s: State, item: OpenIte
     let w = spans::spans(text, out, start + 6);
     let count = item.count + 1 + w.count;
     records::writer::put_number::<4>(out, item.fields, count);
-    records::writer::put(out, item.head, item.map + 8);
+    records::writer::put(out, item.head, (item.map + 8) as u8);
     State {
         at: w.next,
         item: Some(OpenItem { count, ..item }),

@@ -15,8 +15,9 @@ pub fn put(out: &mut [u8], at: usize, b: u8)
     }
 }
 
-// The bytes of s, as many as there is room for.
-#[tactic(auto, using(crate::proofs::Stores::sets_out, crate::proofs::Stores::sets_part))]
+// The bytes of s, as many as there is room for. By index: `copy_from_slice` calls `memmove`, which the archive for C does without, and takes longer
+// for the few bytes between two marks. One test a byte, so that the compiler can take many bytes at once.
+#[tactic(auto, using(crate::proofs::Stores::sets_out))]
 pub fn put_bytes(out: &mut [u8], at: usize, s: &[u8])
     ensures { out.new ≡ sets out.old at s.now }
 {
@@ -24,7 +25,9 @@ pub fn put_bytes(out: &mut [u8], at: usize, s: &[u8])
         return;
     }
     let n = s.len().min(out.len() - at);
-    out[at..at + n].copy_from_slice(&s[..n]);
+    for i in 0..n {
+        out[at + i] = s[i];
+    }
 }
 
 // The N lower bytes of n, 8 at most, the lowest first.

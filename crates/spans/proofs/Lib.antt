@@ -8,6 +8,7 @@ pub mod Turns
 pub mod Bounds
 pub mod Wf
 pub mod Marks
+pub mod Plain
 pub mod Made
 pub mod Loop
 pub mod Both

@@ -1,6 +1,6 @@
 -- What the functions below `spans` answer and store.
 -- Assumes nothing.
-use Rattle.std.specs.Prelude.{◌≡◌, ℕ, zero, suc, ◌+◌, ◌-◌, ◌*◌, ◌^◌, ◌<◌, ◌≤◌, Bool, true, false, ◌||◌, List, [], ◌∷◌, reverse, length, drop, get_or, ltb, if◌then◌else◌}
+use Rattle.std.specs.Prelude.{◌≡◌, ℕ, zero, suc, ◌+◌, ◌-◌, ◌*◌, ◌^◌, ◌<◌, ◌≤◌, Bool, true, false, not, ◌&&◌, ◌||◌, eqb, List, [], ◌∷◌, reverse, length, drop, get_or, ltb, if◌then◌else◌}
 use Rattle.std.specs.Prelude.{Some, None}
 use Rattle.std.specs.Prelude as code
 use Rattle.std.proofs.Math.Option.{Option, none, some}
@@ -152,6 +152,10 @@ pub record BangAt (line : List ℕ) (i : ℕ) : Type 0 where
 abbrev pub PlainIs : List ℕ → ℕ → Bool → Type 0
 PlainIs line i true = TextAt line i
 PlainIs line i false = (get_or line i 0 ≡ 92 → ⊥) → (get_or line i 0 ≡ 96 → ⊥) → (get_or line i 0 ≡ 42 → ⊥) → (get_or line i 0 ≡ 91 → ⊥) → BangAt line i
+
+-- a byte that is text wherever it stands
+unfoldable pub unmarked : ℕ → Bool
+unmarked b = not (eqb b 92 || eqb b 96 || eqb b 42 || eqb b 91) && not (eqb b 33)
 
 -- the bytes from i on below r are text
 pub record PlainTo (line : List ℕ) (i r : ℕ) : Type 0 where

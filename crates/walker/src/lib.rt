@@ -63,7 +63,9 @@ pub fn marker_at(records: &[u8], at: usize) -> &[u8]
     marker_range(records, at).of(records)
 }
 
-// A span of a block; none from the block's span count on, and at the end of the records.
+// A span of a block; none from the block's span count on, and at the end of the records. Inlined: of an answer in memory the three flags would be
+// read back together before each is stored, and a span of a short block takes a third longer.
+#[inline(always)]
 fn nth_at(s: &[u8], at: usize, n: usize) -> Result<Option<Span>, Broken>
     ensures { NthIs s.now at n result }
 {

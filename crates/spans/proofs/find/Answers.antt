@@ -11,7 +11,7 @@ returns c =
     let s = c.args.s.now in
     let known = c.requires in
     let start = clear_resumed 96 s c.args.from _ known.tick in
-    let is = rw c.max.ensures at c.find-found.ensures in (
+    let is = rw c.max.ensures at c.first_tick-found.ensures in (
       is ∙ sym (clear_next 96 s _ _ start),
       record { close = known.close; end = known.end; tick = rw (c.unwrap_or-seen.ensures, is) (past_found 96 s c.args.from _ start) },
     )

@@ -8,7 +8,7 @@ use Rattle.text.specs.Utf8.{chars}
 use Rattle.spans.specs.Spans.{spans}
 use Rattle.records.specs.Blocks.{Item}
 use native.Mathlib.Omega.{arith}
-use mathlib.Core.Path.{sym}
+use mathlib.Core.Path.{◌∙◌, sym}
 use Rattle.markdown.proofs.writer.put_item.Goals as goal
 
 pub put_spans-w-requires : goal.put_spans-w-requires
@@ -25,4 +25,4 @@ returns c =
     let p = c.put_spans-w.ensures in
     let f = c.put_fields-fields.ensures in
     let m = c.item_map-map.ensures mk in
-    (item_state c.args.s _ _ _ _ _ mk _ (at_block b _ _ _ (sym f.0) p.next) m f.0 p.count, block_stored b _ _ _ _ _ f.1 (sym f.0) (rw m at p.stored))
+    (item_state c.args.s _ _ _ _ _ mk _ (at_block b _ _ _ (sym f.0) p.next) (c.from.ensures ∙ m) f.0 p.count, block_stored b _ _ _ _ _ f.1 (sym f.0) (rw m at p.stored))
